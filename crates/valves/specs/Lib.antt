@@ -1,0 +1,5 @@
+pub mod Positions
+pub mod Interlocks
+pub mod Bench
+pub mod Faults
+pub mod Tables

@@ -1,0 +1,4 @@
+// Valve benches: up to twelve valves of two to four positions each, with interlocks between them.
+pub mod interlock;
+pub mod fault;
+pub mod bench;
