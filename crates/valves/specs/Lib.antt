@@ -2,4 +2,5 @@ pub mod Positions
 pub mod Interlocks
 pub mod Bench
 pub mod Faults
+pub mod Data
 pub mod Tables

@@ -2,3 +2,4 @@
 pub mod interlock;
 pub mod fault;
 pub mod bench;
+pub mod check;
