@@ -4,9 +4,9 @@ use mathlib.Core.Bool.{Bool, true, false, _&&_, cond}
 use mathlib.Core.Logic.{_⊎_, inl, inr, ⊎-elim}
 use mathlib.Core.List.{List, [], _∷_}
 use Prim.Native.Nat.{ℕ, zero, suc, _+_, _-_, _*_, _/_, _%_, _^_, _≤_, _<_}
-use native.Mathlib.Nat.{mul-le-mul, mul-pos, pow-le-pow-right, pow-succ'}
+use native.Mathlib.Nat.{mul-pos}
 use native.Mathlib.Omega.{arith}
-use lib.Dec.{eqb, leb, ltb, lit<, lit≤}
+use lib.Dec.{eqb, leb, ltb}
 use lib.ListN.{length, getD, set}
 use Rattle.std.specs.declared.option.Option.{Option}
 use Rattle.std.specs.declared.option.Option.the-variants.{Some, None}
@@ -20,7 +20,7 @@ use Rattle.valves.specs.Positions.{product, setting, positions, weight, apart,
 use Rattle.valves.specs.Interlocks.{barred}
 use Rattle.valves.specs.Bench.{moved, landed, turned, bench-step, bench-reverse, bench-estimate, bench}
 use Rattle.valves.specs.Data.{Ranged, Bench-data}
-use Rattle.valves.proofs.Numbering.{Positive, positions-within, setting-positions, positions-setting, setting-below, within-set, within-length, position-below}
+use Rattle.valves.proofs.Numbering.{Positive, positions-within, setting-positions, positions-setting, setting-below, within-set, within-length, position-below, weight-all, weight-few}
 use Rattle.valves.proofs.Moves.{other-way, Turned, turned-back, Move, move-back}
 use Rattle.valves.proofs.Barring.{barred-back}
 use Rattle.valves.proofs.Differences.{apart-same, apart-most, apart-falls}
@@ -33,16 +33,9 @@ pub product-positive : (ns : List ℕ) → Positive ns → 0 < product ns
 product-positive [] pos = omega arith
 product-positive (n ∷ ns) pos = mul-pos (pos .0) (product-positive ns (pos .1))
 
-pub product-most : (ns : List ℕ) → ((v : ℕ) → v < length ns → getD ns v 0 ≤ 4) → product ns ≤ 4 ^ length ns
-product-most [] four = lit≤ tt
-product-most (n ∷ ns) four =
-    subst (λ x. n * product ns ≤ x) (sym (pow-succ' 4 (length ns))) (mul-le-mul (four 0 (omega arith)) (product-most ns (λ v h. four (suc v) (omega arith))))
-
 -- at most 4 to the power of 12 settings
 pub settings-few : (ns : List ℕ) → length ns ≤ 12 → ((v : ℕ) → v < length ns → getD ns v 0 ≤ 4) → product ns ≤ 16777216
-settings-few ns few four =
-    let power : 4 ^ length ns ≤ 4 ^ 12 = pow-le-pow-right (lit< tt) few in
-    omega (arith, product-most ns four)
+settings-few ns few four = subst (λ x. x ≤ 16777216) (weight-all ns) (weight-few ns (length ns) few four)
 
 -- what a step of a bench is made of
 pub record Stepped (ns : List ℕ) (ls : List Interlock) (s o t : ℕ) : Type 0 where

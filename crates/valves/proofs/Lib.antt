@@ -5,3 +5,4 @@ pub mod Barring
 pub mod Differences
 pub mod BenchLawful
 pub mod FaultWalk
+pub mod Chains

@@ -1,9 +1,10 @@
 -- Positions and settings determine each other, and one position of a valve adds its weight. Assumes nothing.
 use mathlib.Core.Path.{_≡_, refl, sym, ap, _∙_, subst}
 use mathlib.Core.List.{List, [], _∷_}
-use Prim.Native.Nat.{ℕ, zero, suc, _+_, _-_, _*_, _/_, _%_, _≤_, _<_}
-use native.Mathlib.Nat.{mul-comm, mul-add, mul-assoc, mul-left-comm, mul-one, mod-lt, mod-eq-of-lt, div-eq-of-lt, mod-add-div, add-mul-mod-self-left, add-mul-div-left, div-lt-iff-lt-mul, div-div-eq-div-mul, div-one, mul-le-mul-left, mul-pos}
+use Prim.Native.Nat.{ℕ, zero, suc, _+_, _-_, _*_, _/_, _%_, _^_, _≤_, _<_}
+use native.Mathlib.Nat.{mul-comm, mul-add, mul-assoc, mul-left-comm, mul-one, mod-lt, mod-eq-of-lt, div-eq-of-lt, mod-add-div, add-mul-mod-self-left, add-mul-div-left, div-lt-iff-lt-mul, div-div-eq-div-mul, div-one, mul-le-mul-left, mul-le-mul, mul-pos, one-le-pow, pow-succ', pow-le-pow-right}
 use native.Mathlib.Omega.{arith}
+use lib.Dec.{lit<, lit≤}
 use lib.ListN.{length, getD, set}
 use Rattle.valves.specs.Positions.{product, setting, positions, weight, Within}
 
@@ -102,3 +103,16 @@ pub weight-positive : (ns : List ℕ) (v : ℕ) → Positive ns → 0 < weight n
 weight-positive ns zero pos = omega arith
 weight-positive [] (suc v) pos = omega arith
 weight-positive (n ∷ ns) (suc v) pos = mul-pos (pos .0) (weight-positive ns v (pos .1))
+
+-- each valve multiplies the weight by at most four
+pub weight-most : (ns : List ℕ) (v : ℕ) → ((i : ℕ) → i < length ns → getD ns i 0 ≤ 4) → weight ns v ≤ 4 ^ v
+weight-most ns zero four = lit≤ tt
+weight-most [] (suc v) four = one-le-pow (suc v) 4 (lit< tt)
+weight-most (n ∷ ns) (suc v) four =
+    subst (λ x. n * weight ns v ≤ x) (sym (pow-succ' 4 v)) (mul-le-mul (four 0 (omega arith)) (weight-most ns v (λ i h. four (suc i) (omega arith))))
+
+-- so a weight of at most twelve valves is at most 4 to the power of 12
+pub weight-few : (ns : List ℕ) (v : ℕ) → v ≤ 12 → ((i : ℕ) → i < length ns → getD ns i 0 ≤ 4) → weight ns v ≤ 16777216
+weight-few ns v few four =
+    let power : 4 ^ v ≤ 4 ^ 12 = pow-le-pow-right (lit< tt) few in
+    omega (arith, weight-most ns v four)

@@ -10,6 +10,9 @@ ghost use Rattle.valves.specs.Faults.{bench-fault};
 ghost use Rattle.valves.specs.Tables.{Weighs, Begins, Goes-on};
 use crate::interlock::Interlock;
 
+mod tables;
+mod make;
+
 #[derive(Drop)]
 pub struct Bench {
     // how many valves there are, and how many positions each has
