@@ -4,3 +4,4 @@ pub mod Bench
 pub mod Faults
 pub mod Data
 pub mod Tables
+pub mod Of
