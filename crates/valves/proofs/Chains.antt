@@ -12,7 +12,7 @@ use lib.Seq.{getD-set-same, getD-set-other}
 use Rattle.std.proofs.shelf.Lists.{drop-more, drop-all, drop-drop, getD-drop, getD-default}
 use Rattle.std.proofs.shelf.Tests.{cases-bool, cases-eq, eqb-true, eqb-false, eq-eqb, ne-eqb, cond-true, cond-false, and-left}
 use Rattle.valves.specs.declared.interlock.Interlock.{Interlock}
-use Rattle.valves.specs.Interlocks.{bars, barred, row-of, row-from}
+use Rattle.valves.specs.Interlocks.{applies-to, bars, barred, row-of, row-from}
 
 -- one row further
 pub row-more : (ls : List Interlock) (v r : ℕ) (d : Interlock) → r < length ls → row-from ls v r ≡ cond (eqb (getD ls r d .valve) v) r (row-from ls v (suc r))
@@ -66,9 +66,9 @@ row-from-valve ls v r d h =
 bars-none : (v p q : ℕ) (ps : List ℕ) (l : Interlock) (b : Bool) → eqb (l .valve) v ≡ false → (bars v p q ps l || b) ≡ b
 bars-none v p q ps l b e = ap (λ x. x || b) (and-left _ _ e)
 
--- what an interlock of the valve bars is its position at either end and the other valve at its place
-pub bars-own : (v p q : ℕ) (ps : List ℕ) (l : Interlock) → l .valve ≡ v → bars v p q ps l ≡ ((eqb (l .position) p || eqb (l .position) q) && eqb (getD ps (l .other) 0) (l .stands))
-bars-own v p q ps l e = ap (λ x. x && ((eqb (l .position) p || eqb (l .position) q) && eqb (getD ps (l .other) 0) (l .stands))) (eq-eqb _ _ e)
+-- an interlock of the valve bars the moves that it applies to
+pub bars-own : (v p q : ℕ) (ps : List ℕ) (l : Interlock) → l .valve ≡ v → bars v p q ps l ≡ applies-to p q ps l
+bars-own v p q ps l e = ap (λ x. x && applies-to p q ps l) (eq-eqb _ _ e)
 
 module _ (v p q : ℕ) (ps : List ℕ) where
   skipped-by : (b : Bool) (l : Interlock) (ls : List Interlock) (r : ℕ) → eqb (l .valve) v ≡ b → barred v p q ps (drop (row-of v ls (suc r) - suc r) ls) ≡ barred v p q ps ls → barred v p q ps (drop (cond b r (row-of v ls (suc r)) - r) (l ∷ ls)) ≡ barred v p q ps (l ∷ ls)

@@ -6,3 +6,5 @@ pub mod Differences
 pub mod BenchLawful
 pub mod FaultWalk
 pub mod Chains
+pub mod Invariant
+pub mod Rows

@@ -11,9 +11,16 @@ use Rattle.valves.specs.declared.interlock.Interlock.{Interlock}
 use Rattle.valves.specs.Positions.{product, setting, positions, apart}
 use Rattle.valves.specs.Interlocks.{barred}
 
--- from position p of n, one up by an even operation and one down by an odd one, and not past an end
+-- one position up from p of n, and one down from p: not past an end
+abbrev pub raised : ℕ → ℕ → Option ℕ
+raised n p = cond (ltb (p + 1) n) (Some (p + 1)) None
+
+abbrev pub lowered : ℕ → Option ℕ
+lowered p = cond (ltb 0 p) (Some (p - 1)) None
+
+-- up by an even operation, down by an odd one
 abbrev pub moved : ℕ → ℕ → ℕ → Option ℕ
-moved o n p = cond (eqb (o % 2) 0) (cond (ltb (p + 1) n) (Some (p + 1)) None) (cond (ltb 0 p) (Some (p - 1)) None)
+moved o n p = cond (eqb (o % 2) 0) (raised n p) (lowered p)
 
 -- the setting after valve v goes from position p to another one, unless an interlock bars it
 abbrev pub landed : List ℕ → List Interlock → ℕ → List ℕ → ℕ → Option ℕ → Option ℕ

@@ -6,10 +6,14 @@ use lib.Dec.{eqb}
 use lib.ListN.{getD, drop}
 use Rattle.valves.specs.declared.interlock.Interlock.{Interlock}
 
--- whether the interlock bars valve v from going from position p to position q, with the valves at ps: it is an
--- interlock of v, its position is at either end of the move, and its other valve stands where it says
+-- whether an interlock applies to its valve going from position p to position q, with the valves at ps: its position
+-- is at either end of the move, and its other valve stands where it says
+abbrev pub applies-to : ℕ → ℕ → List ℕ → Interlock → Bool
+applies-to p q ps l = (eqb (l .position) p || eqb (l .position) q) && eqb (getD ps (l .other) 0) (l .stands)
+
+-- whether it bars valve v from that move
 abbrev pub bars : ℕ → ℕ → ℕ → List ℕ → Interlock → Bool
-bars v p q ps l = eqb (l .valve) v && ((eqb (l .position) p || eqb (l .position) q) && eqb (getD ps (l .other) 0) (l .stands))
+bars v p q ps l = eqb (l .valve) v && applies-to p q ps l
 
 -- whether any of the interlocks does
 abbrev pub barred : ℕ → ℕ → ℕ → List ℕ → List Interlock → Bool

@@ -12,6 +12,7 @@ use crate::interlock::Interlock;
 
 mod tables;
 mod make;
+mod look;
 
 #[derive(Drop)]
 pub struct Bench {
