@@ -18,10 +18,10 @@ use Rattle.plant.proofs.Estimates.{least-from-falls}
 use Rattle.valves.specs.declared.interlock.Interlock.{Interlock}
 use Rattle.valves.specs.Positions.{product, setting, positions, weight, apart, Within}
 use Rattle.valves.specs.Interlocks.{barred}
-use Rattle.valves.specs.Bench.{moved, landed, turned, bench-step, bench-reverse, bench-estimate, bench}
+use Rattle.valves.specs.Bench.{landed, turned, bench-step, bench-reverse, bench-estimate, bench}
 use Rattle.valves.specs.Data.{Ranged, Bench-data}
 use Rattle.valves.proofs.Numbering.{Positive, positions-within, setting-positions, positions-setting, setting-below, within-set, within-length, position-below, weight-all, weight-few}
-use Rattle.valves.proofs.Moves.{other-way, Turned, turned-back, Move, move-back}
+use Rattle.valves.proofs.Moves.{moved, turned-moved, other-way, Turned, turned-back, Move, move-back}
 use Rattle.valves.proofs.Barring.{barred-back}
 use Rattle.valves.proofs.Differences.{apart-same, apart-most, apart-falls}
 
@@ -63,7 +63,7 @@ stepped ns ls s o t e = by-range (ltb s (product ns) && ltb o (2 * length ns)) r
     by-range : (b : Bool) → (ltb s (product ns) && ltb o (2 * length ns)) ≡ b → cond b (turned ns ls (positions ns s) o) None ≡ Some t → Stepped ns ls s o t
     by-range true f h =
         let range = and-parts _ _ f in
-        let found = landed-some ns ls (o / 2) (positions ns s) (getD (positions ns s) (o / 2) 0) t _ h in
+        let found = landed-some ns ls (o / 2) (positions ns s) (getD (positions ns s) (o / 2) 0) t _ (sym (turned-moved ns ls (positions ns s) o) ∙ h) in
         record {
           setting-in = ltb-true _ _ (range .0);
           operation-in = ltb-true _ _ (range .1);
@@ -78,8 +78,9 @@ stepped ns ls s o t e = by-range (ltb s (product ns) && ltb o (2 * length ns)) r
 pub step-from : (ns : List ℕ) (ls : List Interlock) (s o t : ℕ) → Stepped ns ls s o t → bench-step ns ls s o ≡ Some t
 step-from ns ls s o t k =
     cond-true _ _ _ (and-from _ _ (lt-ltb _ _ (k .setting-in)) (lt-ltb _ _ (k .operation-in)))
+    ∙ (turned-moved ns ls (positions ns s) o
     ∙ (ap (landed ns ls (o / 2) (positions ns s) (getD (positions ns s) (o / 2) 0)) (k .moves)
-    ∙ (cond-false _ _ _ (k .free) ∙ ap Some (sym (k .lands))))
+    ∙ (cond-false _ _ _ (k .free) ∙ ap Some (sym (k .lands)))))
 
 module _ (ns : List ℕ) (ls : List Interlock) (k : Bench-data ns ls) where
   has-positions : Positive ns

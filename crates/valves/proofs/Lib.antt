@@ -8,3 +8,4 @@ pub mod FaultWalk
 pub mod Chains
 pub mod Invariant
 pub mod Rows
+pub mod Steps

@@ -8,7 +8,22 @@ use lib.Dec.{eqb, ltb}
 use Rattle.std.specs.declared.option.Option.{Option}
 use Rattle.std.specs.declared.option.Option.the-variants.{Some, None}
 use Rattle.std.proofs.shelf.Tests.{cases-bool, eqb-true, eqb-false, ltb-true, lt-ltb, eq-eqb, ne-eqb, cond-true, cond-false}
-use Rattle.valves.specs.Bench.{moved}
+use mathlib.Core.List.{List}
+use lib.ListN.{getD}
+use Rattle.valves.specs.declared.interlock.Interlock.{Interlock}
+use Rattle.valves.specs.Bench.{raised, lowered, landed, turned}
+
+-- up by an even operation, down by an odd one
+abbrev pub moved : ℕ → ℕ → ℕ → Option ℕ
+moved o n p = cond (eqb (o % 2) 0) (raised n p) (lowered p)
+
+landed-of-cond : (ns : List ℕ) (ls : List Interlock) (v : ℕ) (ps : List ℕ) (p : ℕ) (b : Bool) (x y : Option ℕ) → cond b (landed ns ls v ps p x) (landed ns ls v ps p y) ≡ landed ns ls v ps p (cond b x y)
+landed-of-cond ns ls v ps p true x y = refl
+landed-of-cond ns ls v ps p false x y = refl
+
+-- one move, up or down, of the operation's valve
+pub turned-moved : (ns : List ℕ) (ls : List Interlock) (ps : List ℕ) (o : ℕ) → turned ns ls ps o ≡ landed ns ls (o / 2) ps (getD ps (o / 2) 0) (moved o (getD ns (o / 2) 0) (getD ps (o / 2) 0))
+turned-moved ns ls ps o = landed-of-cond ns ls (o / 2) ps (getD ps (o / 2) 0) (eqb (o % 2) 0) (raised (getD ns (o / 2) 0) (getD ps (o / 2) 0)) (lowered (getD ps (o / 2) 0))
 
 -- the operation that moves the same valve the other way
 abbrev pub other-way : ℕ → ℕ

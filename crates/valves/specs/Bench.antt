@@ -18,18 +18,21 @@ raised n p = cond (ltb (p + 1) n) (Some (p + 1)) None
 abbrev pub lowered : ℕ → Option ℕ
 lowered p = cond (ltb 0 p) (Some (p - 1)) None
 
--- up by an even operation, down by an odd one
-abbrev pub moved : ℕ → ℕ → ℕ → Option ℕ
-moved o n p = cond (eqb (o % 2) 0) (raised n p) (lowered p)
-
 -- the setting after valve v goes from position p to another one, unless an interlock bars it
 abbrev pub landed : List ℕ → List Interlock → ℕ → List ℕ → ℕ → Option ℕ → Option ℕ
 landed ns locks v ps p None = None
 landed ns locks v ps p (Some q) = cond (barred v p q ps locks) None (Some (setting ns (set ps v q)))
 
--- operation o moves valve o / 2
+-- valve v one position up, and one down
+abbrev pub gone-up : List ℕ → List Interlock → List ℕ → ℕ → Option ℕ
+gone-up ns locks ps v = landed ns locks v ps (getD ps v 0) (raised (getD ns v 0) (getD ps v 0))
+
+abbrev pub gone-down : List ℕ → List Interlock → List ℕ → ℕ → Option ℕ
+gone-down ns locks ps v = landed ns locks v ps (getD ps v 0) (lowered (getD ps v 0))
+
+-- operation o moves valve o / 2, up if it is even and down if it is odd
 abbrev pub turned : List ℕ → List Interlock → List ℕ → ℕ → Option ℕ
-turned ns locks ps o = landed ns locks (o / 2) ps (getD ps (o / 2) 0) (moved o (getD ns (o / 2) 0) (getD ps (o / 2) 0))
+turned ns locks ps o = cond (eqb (o % 2) 0) (gone-up ns locks ps (o / 2)) (gone-down ns locks ps (o / 2))
 
 -- the step of the bench: none out of range
 abbrev pub bench-step : List ℕ → List Interlock → ℕ → ℕ → Option ℕ

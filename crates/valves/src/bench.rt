@@ -13,6 +13,7 @@ use crate::interlock::Interlock;
 mod tables;
 mod make;
 mod look;
+mod questions;
 
 #[derive(Drop)]
 pub struct Bench {
