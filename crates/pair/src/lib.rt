@@ -1,0 +1,2 @@
+// Pairs: two plants run as one.
+pub mod pair;

@@ -1,0 +1,2 @@
+// Tagged plants: a plant below with some operations taken out.
+pub mod tagged;

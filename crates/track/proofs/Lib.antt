@@ -1,0 +1,3 @@
+pub mod Used
+pub mod Rows
+pub mod Laws
