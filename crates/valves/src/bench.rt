@@ -13,7 +13,7 @@ use crate::interlock::Interlock;
 mod tables;
 mod make;
 mod look;
-mod questions;
+pub mod questions;
 
 #[derive(Drop)]
 pub struct Bench {
