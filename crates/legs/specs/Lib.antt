@@ -1,0 +1,4 @@
+pub mod Kinds
+pub mod Layers
+pub mod Legs
+pub mod Laws
