@@ -1,0 +1,5 @@
+pub mod Members
+pub mod Arrivals
+pub mod Kept
+pub mod Tells
+pub mod Layers
