@@ -3,3 +3,10 @@ pub mod Arrivals
 pub mod Kept
 pub mod Tells
 pub mod Layers
+pub mod Lists
+pub mod Reach
+pub mod Ends
+pub mod Distinct
+pub mod Few
+pub mod Laws
+pub mod Duplicates

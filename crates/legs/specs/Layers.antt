@@ -72,3 +72,8 @@ layer m k g d = grown m k g d .layer
 -- the settings of the layer at depth d
 abbrev pub settings : Meaning → Leg → ℕ → List ℕ
 settings m g d = layer m plain g d
+
+-- the layer before the one at depth d: before the first there is an empty one
+abbrev pub layer-before : {R : Type 0} → Meaning → Kind R → Leg → ℕ → List R
+layer-before m k g zero = []
+layer-before m k g (suc d) = layer m k g d
