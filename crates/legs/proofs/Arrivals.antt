@@ -43,7 +43,7 @@ module _ (m : Meaning) (d v : ℕ) where
       ∙ ⊎-elim
       (λ b. or-left _ _ (step-reached n u o b s))
       (λ b. let e : n ≡ o = omega arith in
-          or-right (has (reached m plain d v n) u) _ (ap (λ t. has (arrival plain d v t) u) (ap (λ x. m .step v x) e ∙ s) ∙ has-here u u [] refl))
+      or-right (has (reached m plain d v n) u) _ (ap (λ t. has (arrival plain d v t) u) (ap (λ x. m .step v x) e ∙ s) ∙ has-here u u [] refl))
       (cases-lt o n)
 
 -- the settings one step from those of a list

@@ -24,9 +24,10 @@ has-not us u n = ⊎-elim (λ t. absurd (n t)) (λ f. f) (cases-bool (has us u))
 
 pub distinct-append : (us vs : List ℕ) → Distinct us → Distinct vs → ((u : ℕ) → has us u ≡ true → has vs u ≡ true → ⊥) → Distinct (us ++ vs)
 distinct-append [] vs a b n = b
-distinct-append (u ∷ us) vs a b n =
-    ( has-append us vs u ∙ or-from (has us u) (has vs u) (a .0) (has-not vs u (λ t. n u (has-here u u us refl) t))
-    , distinct-append us vs (a .1) b (λ w h t. n w (has-later u w us h) t) )
+distinct-append (u ∷ us) vs a b n = (
+  has-append us vs u ∙ or-from (has us u) (has vs u) (a .0) (has-not vs u (λ t. n u (has-here u u us refl) t)),
+  distinct-append us vs (a .1) b (λ w h t. n w (has-later u w us h) t),
+)
 
 pub distinct-kept : (fit : ℕ → Bool) (met us : List ℕ) → Distinct (kept plain fit met us)
 distinct-kept fit met [] = tt
@@ -66,9 +67,10 @@ without-distinct x (u ∷ us) d = either (eqb u x) refl (without-distinct x us (
         (b : Bool) → eqb u x ≡ b → Distinct (without x us) × (has (without x us) x ≡ false)
         → Distinct (cond b us (u ∷ without x us)) × (has (cond b us (u ∷ without x us)) x ≡ false)
     either true e r = (d .1, subst (λ w. has us w ≡ false) (eqb-true u x e) (d .0))
-    either false e r =
-        ( (has-not (without x us) u (λ t. both-ways (has us u) (d .0) (without-has x us u t)), r .0)
-        , or-from (eqb u x) (has (without x us) x) e (r .1) )
+    either false e r = (
+      (has-not (without x us) u (λ t. both-ways (has us u) (d .0) (without-has x us u t)), r .0),
+      or-from (eqb u x) (has (without x us) x) e (r .1),
+    )
 
 -- distinct numbers below n are at most n
 pub pigeonhole : (n : ℕ) (us : List ℕ) → Distinct us → ((u : ℕ) → has us u ≡ true → u < n) → length us ≤ n

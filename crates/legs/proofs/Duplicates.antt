@@ -35,6 +35,7 @@ module _ (m : Meaning) (g : Leg) (lawful : Lawful m) where
           (λ e. or-right (has (settings m g d) u) _ (subst (λ i. Holds m g i u) e (r .2)))
           (λ e. let e′ : r .0 ≡ d = omega (arith, e) in or-left _ (has (settings m g (suc d)) u) (subst (λ i. Holds m g i u) e′ (r .2)))
           (near m g lawful (suc d) (r .0) u b (r .2) (r .1))
+
       back : (d : ℕ) → (has (layer-before m plain g d) u || has (settings m g d) u) ≡ true → met-by m g d u ≡ true
       back zero t = layer-met m g zero zero u (omega arith) t
       back (suc d) t =
@@ -70,5 +71,5 @@ module _ (m : Meaning) (g : Leg) (lawful : Lawful m) where
         ap (λ l. has l u) (map-append (k .setting) (layer-before m k g d) (layer m k g d ++ nexts))
         ∙ has-append (map (k .setting) (layer-before m k g d)) (map (k .setting) (layer m k g d ++ nexts)) u
         ∙ ap (λ b. has (map (k .setting) (layer-before m k g d)) u || b)
-            (ap (λ l. has l u) (map-append (k .setting) (layer m k g d) nexts) ∙ has-append (map (k .setting) (layer m k g d)) (map (k .setting) nexts) u)
+        (ap (λ l. has l u) (map-append (k .setting) (layer m k g d) nexts) ∙ has-append (map (k .setting) (layer m k g d)) (map (k .setting) nexts) u)
         ∙ sym (three-layers d r o u nexts i s)

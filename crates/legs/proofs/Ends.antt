@@ -32,9 +32,12 @@ module _ (m : Meaning) (g : Leg) where
     where
       split : (b : Bool) → ends m g d ≡ b → First-end (suc d) (end-from m g k (suc d)) → First-end d (elim b [ true ↦ d | false ↦ end-from m g k (suc d) ])
       split true t r = (omega arith, omega arith, t, λ i l b. absurd (omega arith))
-      split false f r =
-          ( omega (arith, r .0), r .1, r .2
-          , λ i l b. ⊎-elim (λ t. r .3 i t b) (λ t. let at : d ≡ i = omega arith in subst (λ j. ends m g j ≡ false) at f) (cases-lt d i) )
+      split false f r = (
+        omega (arith, r .0),
+        r .1,
+        r .2,
+        λ i l b. ⊎-elim (λ t. r .3 i t b) (λ t. let at : d ≡ i = omega arith in subst (λ j. ends m g j ≡ false) at f) (cases-lt d i),
+      )
 
   the-end : First-end 0 (end m g)
   the-end = first-end (g .bound) 0 (omega arith)
@@ -51,6 +54,7 @@ module _ (m : Meaning) (g : Leg) where
     where
       late : j < end m g → ⊥
       late b = both-ways (ends m g j) (before-end j b) (or-left _ _ h)
+
       early : end m g < j → ⊥
       early b =
           ⊎-elim
@@ -81,11 +85,14 @@ module _ (m : Meaning) (g : Leg) where
       where
         forth : leg-length m g ≡ Some n → (n ≤ g .bound) × Reached-in m g n × ((k : ℕ) → Reached-in m g k → n ≤ k)
         forth e =
-            let p = length-holds n e in
-            ( p .0, layer-reached m g n (g .target) (p .2)
-            , λ k r. ⊎-elim
-                (λ b. absurd (let q = reach m g lawful k (omega (arith, p .0)) r in omega (arith, q .1, b, apart m g n (q .0) (g .target) (p .2) (q .2))))
-                (λ b. b) (cases-lt k n) )
+            let p = length-holds n e in (
+              p .0,
+              layer-reached m g n (g .target) (p .2),
+              λ k r. ⊎-elim
+                  (λ b. absurd (let q = reach m g lawful k (omega (arith, p .0)) r in omega (arith, q .1, b, apart m g n (q .0) (g .target) (p .2) (q .2))))
+                  (λ b. b) (cases-lt k n),
+            )
+
         back : (n ≤ g .bound) × Reached-in m g n × ((k : ℕ) → Reached-in m g k → n ≤ k) → leg-length m g ≡ Some n
         back p =
             let q = reach m g lawful n (p .0) (p .1) in
@@ -94,7 +101,8 @@ module _ (m : Meaning) (g : Leg) where
             length-holding n (p .0) (subst (λ i. Holds m g i (g .target)) at (q .2))
 
     pub none-within : (leg-length m g ≡ None) ↔ ((k : ℕ) → k ≤ g .bound → Reached-in m g k → ⊥)
-    none-within =
-        ( λ e k l r. let q = reach m g lawful k l r in none-holds e (q .0) (omega (arith, q .1)) (q .2)
-        , λ no. ⊎-elim (λ t. absurd (no (end m g) end-within (layer-reached m g (end m g) (g .target) t))) (λ f. cond-false _ (Some (end m g)) None f)
-            (cases-bool (has (settings m g (end m g)) (g .target))) )
+    none-within = (
+      λ e k l r. let q = reach m g lawful k l r in none-holds e (q .0) (omega (arith, q .1)) (q .2),
+      λ no. ⊎-elim (λ t. absurd (no (end m g) end-within (layer-reached m g (end m g) (g .target) t))) (λ f. cond-false _ (Some (end m g)) None f)
+          (cases-bool (has (settings m g (end m g)) (g .target))),
+    )

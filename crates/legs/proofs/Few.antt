@@ -30,7 +30,7 @@ module _ (m : Meaning) (g : Leg) where
   met-distinct (suc d) =
       subst (λ l. Distinct (l ++ grown m plain g d .met)) (sym (map-id (settings m g (suc d))))
       (distinct-append (settings m g (suc d)) (grown m plain g d .met) (layer-distinct (suc d)) (met-distinct d)
-          (λ u h t. both-ways (has (grown m plain g d .met) u) (layer-next m g d u h .1) t))
+      (λ u h t. both-ways (has (grown m plain g d .met) u) (layer-next m g d u h .1) t))
 
   met-length : (d : ℕ) → length (grown m plain g d .met) ≡ sizes m g (suc d)
   met-length zero = omega (arith, length-map (settings m g zero) (λ u. u))

@@ -30,14 +30,19 @@ has-kept fit met (v ∷ us) u =
   where
     rest : List ℕ
     rest = kept plain fit (v ∷ met) us
+
     Later : Type 0
     Later = (w : ℕ) → has rest w ≡ (has us w && (not (eqb v w || has met w) && fit w))
+
     itself : Later → has rest v ≡ false
     itself later = later v ∙ ap (λ b. has us v && (not (b || has met v) && fit v)) (eq-eqb v v refl) ∙ and-false (has us v)
+
     Goal : ℕ → Type 0
     Goal w = has (cond (has met v || not (fit v)) rest (v ∷ rest)) w ≡ ((eqb v w || has us w) && (not (has met w) && fit w))
+
     here : Later → v ≡ u → Goal u
     here later e = subst Goal e (kept-at-head (has met v) (fit v) v rest (itself later) ∙ ap (λ b. (b || has us v) && (not (has met v) && fit v)) (sym (eq-eqb v v refl)))
+
     there : Later → eqb v u ≡ false → Goal u
     there later e = kept-past-head (has met v || not (fit v)) v u rest e ∙ later u ∙ ap (λ b. has us u && (not (b || has met u) && fit u)) e ∙ ap (λ b. (b || has us u) && (not (has met u) && fit u)) (sym e)
 
@@ -89,13 +94,16 @@ module _ {R : Type 0} (k : Kind R) (fit : ℕ → Bool) where
     where
       here : Bool
       here = has met (k .setting p) || not (fit (k .setting p))
+
       Same : ℕ → Type 0
       Same w = refused (k .setting p ∷ met) rest w ≡ refused met (cond here rest (p ∷ rest)) w
+
       itself : Same (k .setting p)
       itself =
           let e = eq-eqb (k .setting p) (k .setting p) refl in
           ap (λ b. (b || has met (k .setting p)) || (has (map (k .setting) rest) (k .setting p) || not (fit (k .setting p)))) e
           ∙ sym (refused-itself (has met (k .setting p)) (not (fit (k .setting p))) p rest (k .setting p) e)
+
       past : eqb (k .setting p) s ≡ false → Same s
       past e =
           ap (λ b. (b || has met s) || (has (map (k .setting) rest) s || not (fit s))) e

@@ -14,5 +14,5 @@ legs-lawful m lawful =
       near = λ g. near m g lawful;
       least = λ g. least m g lawful;
       none-within = λ g. none-within m g lawful;
-      few = λ g d below. few m g lawful below d
+      few = λ g d below. few m g lawful below d;
     }

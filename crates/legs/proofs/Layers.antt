@@ -69,11 +69,12 @@ module _ (m : Meaning) (g : Leg) where
         (step-arrivals m (suc d) lawful (settings m g d) (b .0) (b .1) u (b .2) (b .3)) n (le-leb _ _ l)
 
     pub layered : (d u : ℕ) → Holds m g (suc d) u ↔ (Beside m g d u × ((j : ℕ) → j ≤ d → Holds m g j u → ⊥) × (m .estimate u (g .target) + suc d ≤ g .bound))
-    layered d u =
-        ( λ h. let p = layer-next d u h in (p .0, (λ j l i. both-ways (met-by d u) (p .1) (layer-met d j u l i)), p .2)
-        , λ p. next-holds d u (p .0)
-            (⊎-elim (λ t. let r = met-layer d u t in absurd (p .1 (r .0) (r .1) (r .2))) (λ f. f) (cases-bool (met-by d u)))
-            (p .2) )
+    layered d u = (
+      λ h. let p = layer-next d u h in (p .0, (λ j l i. both-ways (met-by d u) (p .1) (layer-met d j u l i)), p .2),
+      λ p. next-holds d u (p .0)
+          (⊎-elim (λ t. let r = met-layer d u t in absurd (p .1 (r .0) (r .1) (r .2))) (λ f. f) (cases-bool (met-by d u)))
+          (p .2),
+    )
 
   -- the estimate of what a layer holds, with its depth, is within the bound
   pub layer-fits : (d u : ℕ) → Holds m g d u → m .estimate u (g .target) + d ≤ g .bound
@@ -106,5 +107,6 @@ module _ (m : Meaning) (g : Leg) where
             let r = beside-met j (b .0) (u, m .reverse (b .1), h, lawful .steps-back (b .0) (b .1) u (b .3)) (omega (arith, fit)) in
             let e = apart d (r .0) (b .0) (b .2) (r .2) in
             omega (arith, r .1, e)
+
         which : d ≤ suc j → (j ≡ d) ⊎ (suc j ≡ d)
         which close = ⊎-elim (λ t. inr (omega arith)) (λ t. inl (omega arith)) (cases-lt j d)

@@ -22,10 +22,11 @@ module _ (m : Meaning) (g : Leg) where
   layer-reached zero u h = ([], refl, layer-first m g u h .0)
   layer-reached (suc d) u h =
       let b = layer-next m g d u h .0 in
-      let r = layer-reached d (b .0) (b .2) in
-      ( r .0 ++ b .1 ∷ []
-      , length-push (r .0) (b .1) ∙ ap (λ n. n + 1) (r .1) ∙ add-one d
-      , leads-append m (r .0) (b .1 ∷ []) (g .start) (b .0) u (r .2) (one-leads m (b .0) (b .1) u (b .3)) )
+      let r = layer-reached d (b .0) (b .2) in (
+        r .0 ++ b .1 ∷ [],
+        length-push (r .0) (b .1) ∙ ap (λ n. n + 1) (r .1) ∙ add-one d,
+        leads-append m (r .0) (b .1 ∷ []) (g .start) (b .0) u (r .2) (one-leads m (b .0) (b .1) u (b .3)),
+      )
 
   -- behind an empty layer there are only empty ones
   pub some-before : (i j u : ℕ) → i ≤ j → Holds m g j u → (v : ℕ) × Holds m g i v

@@ -41,8 +41,8 @@ module _ {R : Type 0} (m : Meaning) (k : Kind R) (t : Tells k) where
     same-layers (suc d) =
         let before = same-layers d in
         let e : map (k .setting) (layer m k g (suc d)) ≡ settings m g (suc d) =
-            map-kept k plain (k .setting) (λ r. refl) (fits m g (suc d)) (grown m k g d .met) (arrivals m k (suc d) (layer m k g d))
-            ∙ ap₂ (λ met us. kept plain (fits m g (suc d)) met us) (before .1) (arrivals-settings (suc d) (layer m k g d) ∙ ap (arrivals m plain (suc d)) (before .0)) in
+        map-kept k plain (k .setting) (λ r. refl) (fits m g (suc d)) (grown m k g d .met) (arrivals m k (suc d) (layer m k g d))
+        ∙ ap₂ (λ met us. kept plain (fits m g (suc d)) met us) (before .1) (arrivals-settings (suc d) (layer m k g d) ∙ ap (arrivals m plain (suc d)) (before .0)) in
         (e, ap₂ (λ l n. l ++ n) (e ∙ sym (map-id (settings m g (suc d)))) (before .1))
 
     pub layer-settings : (d : ℕ) → map (k .setting) (layer m k g d) ≡ settings m g d
