@@ -46,6 +46,15 @@ module _ (m : Meaning) (d v : ℕ) where
       or-right (has (reached m plain d v n) u) _ (ap (λ t. has (arrival plain d v t) u) (ap (λ x. m .step v x) e ∙ s) ∙ has-here u u [] refl))
       (cases-lt o n)
 
+-- what steps is below the number of operations
+module _ (m : Meaning) where
+  pub step-below : Lawful m → (v o u : ℕ) → Steps m v o u → o < m .operations
+  step-below lawful v o u s =
+      ⊎-elim (λ l. l) (λ p. absurd (none-some (sym (lawful .operation-past v o p) ∙ s))) (cases-lt o (m .operations))
+    where
+      none-some : {A : Type 0} {a : A} → None ≡ Some a → ⊥
+      none-some e = let z : _≡_ {A = ℕ} 0 1 = cc in omega arith
+
 -- the settings one step from those of a list
 module _ (m : Meaning) (d : ℕ) where
   pub arrivals-step : (vs : List ℕ) (u : ℕ) → has (arrivals m plain d vs) u ≡ true → (v : ℕ) × (o : ℕ) × (has vs v ≡ true) × Steps m v o u
@@ -56,18 +65,11 @@ module _ (m : Meaning) (d : ℕ) where
       (λ l. let r = arrivals-step vs u l in (r .0, r .1, has-later v (r .0) vs (r .2), r .3))
       (or-cases _ _ (sym (has-append (reached m plain d v (m .operations)) (arrivals m plain d vs) u) ∙ h))
 
-  pub step-below : Lawful m → (v o u : ℕ) → Steps m v o u → o < m .operations
-  step-below lawful v o u s =
-      ⊎-elim (λ l. l) (λ p. absurd (none-some (sym (lawful .operation-past v o p) ∙ s))) (cases-lt o (m .operations))
-    where
-      none-some : {A : Type 0} {a : A} → None ≡ Some a → ⊥
-      none-some e = let z : _≡_ {A = ℕ} 0 1 = cc in omega arith
-
   pub step-arrivals : Lawful m → (vs : List ℕ) (v o u : ℕ) → has vs v ≡ true → Steps m v o u → has (arrivals m plain d vs) u ≡ true
   step-arrivals lawful [] v o u h s = absurd (false≢true h)
   step-arrivals lawful (w ∷ vs) v o u h s =
       has-append (reached m plain d w (m .operations)) (arrivals m plain d vs) u
       ∙ ⊎-elim
-      (λ e. or-left _ _ (step-reached m d w (m .operations) u o (step-below lawful v o u s) (ap (λ x. m .step x o) e ∙ s)))
+      (λ e. or-left _ _ (step-reached m d w (m .operations) u o (step-below m lawful v o u s) (ap (λ x. m .step x o) e ∙ s)))
       (λ l. or-right (has (reached m plain d w (m .operations)) u) _ (step-arrivals lawful vs v o u l s))
       (has-cases w v vs h)

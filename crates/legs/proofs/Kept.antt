@@ -5,9 +5,10 @@ use mathlib.Core.Logic.{_⊎_, inl, inr, ⊎-elim}
 use mathlib.Core.List.{List, [], _∷_, _++_, map}
 use Prim.Native.Nat.{ℕ, zero, suc}
 use lib.Dec.{eqb}
-use Rattle.std.proofs.shelf.Tests.{cases-eq, eq-eqb, ne-eqb, not-true, and-parts, and-from, not-from-false, or-left, or-right}
+use Rattle.std.proofs.shelf.Tests.{cases-eq, eq-eqb, ne-eqb, not-true, and-parts, and-from, not-from-false, or-left, or-right, or-parts}
 use Rattle.legs.specs.Kinds.{Kind, plain}
 use Rattle.legs.specs.Layers.{has, kept}
+use Rattle.legs.proofs.Members.{In}
 
 -- a setting is kept where it arrives, is not met and fits
 kept-at-head : (met-already fit : Bool) (v : ℕ) (rest : List ℕ) → has rest v ≡ false → has (cond (met-already || not fit) rest (v ∷ rest)) v ≡ (not met-already && fit)
@@ -115,3 +116,26 @@ module _ {R : Type 0} (k : Kind R) (fit : ℕ → Bool) where
   kept-push met (p ∷ rs) r =
       push-under (has met (k .setting p) || not (fit (k .setting p))) p (kept k fit (k .setting p ∷ met) rs) _ _ (kept-push (k .setting p ∷ met) rs r)
       ∙ ap (λ b. kept k fit met (p ∷ rs) ++ cond b [] (r ∷ [])) (refused-under met (kept k fit (k .setting p ∷ met) rs) p (k .setting r))
+
+-- what is kept was there, and was not met
+module _ {R : Type 0} (k : Kind R) (fit : ℕ → Bool) where
+  pub kept-in : (met : List ℕ) (rs : List R) (r : R) → In r (kept k fit met rs) → In r rs
+  kept-in met [] r i = i
+  kept-in met (p ∷ rs) r i = either (has met (k .setting p) || not (fit (k .setting p))) (λ l. kept-in (k .setting p ∷ met) rs r l) i
+    where
+      either : (b : Bool) → (In r (kept k fit (k .setting p ∷ met) rs) → In r rs) → In r (cond b (kept k fit (k .setting p ∷ met) rs) (p ∷ kept k fit (k .setting p ∷ met) rs)) → In r (p ∷ rs)
+      either true f l = inr (f l)
+      either false f (inl e) = inl e
+      either false f (inr l) = inr (f l)
+
+  pub kept-unmet : (met : List ℕ) (rs : List R) (r : R) → In r (kept k fit met rs) → has met (k .setting r) ≡ false
+  kept-unmet met [] r i = absurd i
+  kept-unmet met (p ∷ rs) r i = either (has met (k .setting p)) refl (fit (k .setting p)) (λ l. or-parts _ _ (kept-unmet (k .setting p ∷ met) rs r l) .1) i
+    where
+      either :
+          (b : Bool) → has met (k .setting p) ≡ b → (f : Bool) → (In r (kept k fit (k .setting p ∷ met) rs) → has met (k .setting r) ≡ false)
+          → In r (cond (b || not f) (kept k fit (k .setting p ∷ met) rs) (p ∷ kept k fit (k .setting p ∷ met) rs)) → has met (k .setting r) ≡ false
+      either true e f n l = n l
+      either false e true n (inl l) = subst (λ q. has met (k .setting q) ≡ false) l e
+      either false e true n (inr l) = n l
+      either false e false n l = n l

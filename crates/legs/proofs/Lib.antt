@@ -10,3 +10,6 @@ pub mod Distinct
 pub mod Few
 pub mod Laws
 pub mod Duplicates
+pub mod Earlier
+pub mod Ways
+pub mod Order

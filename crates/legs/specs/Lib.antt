@@ -2,3 +2,6 @@ pub mod Kinds
 pub mod Layers
 pub mod Legs
 pub mod Laws
+pub mod Lists
+pub mod Relays
+pub mod Plans
