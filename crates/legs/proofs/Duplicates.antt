@@ -12,8 +12,8 @@ use Rattle.plant.specs.Laws.{Lawful}
 use Rattle.legs.specs.Kinds.{Kind, plain, Tells}
 use Rattle.legs.specs.Layers.{Leg, has, grown, layer, settings, layer-before}
 use Rattle.legs.specs.Laws.{Holds, Beside}
-use Rattle.legs.proofs.Members.{In, told-has, has-append, or-assoc}
-use Rattle.legs.proofs.Tells.{layer-settings, met-settings}
+use Rattle.legs.proofs.Members.{In, has-append, or-assoc}
+use Rattle.legs.proofs.Tells.{layer-settings, met-settings, in-layer}
 use Rattle.legs.proofs.Layers.{met-by, met-layer, layer-met, near}
 
 -- two tests are equal where each follows from the other
@@ -47,10 +47,6 @@ module _ (m : Meaning) (g : Leg) (lawful : Lawful m) where
     before-settings zero = refl
     before-settings (suc d) = layer-settings m k t g d
 
-    -- a record of layer d stands at a setting of that layer
-    pub in-layer : (d : ℕ) (r : R) → In r (layer m k g d) → Holds m g d (k .setting r)
-    in-layer d r i = ap (λ l. has l (k .setting r)) (sym (layer-settings m k t g d)) ∙ told-has (k .setting) r (layer m k g d) i
-
     -- u, one step from a record of layer d, is met or among the next ones exactly where the three layers have it
     pub three-layers :
         (d : ℕ) (r : R) (o u : ℕ) (nexts : List R) → In r (layer m k g d) → Steps m (k .setting r) o u
@@ -58,7 +54,7 @@ module _ (m : Meaning) (g : Leg) (lawful : Lawful m) where
         ≡ (has (map (k .setting) (layer-before m k g d)) u || (has (map (k .setting) (layer m k g d)) u || has (map (k .setting) nexts) u))
     three-layers d r o u nexts i s =
         ap (λ l. has l u || has (map (k .setting) nexts) u) (met-settings m k t g d)
-        ∙ ap (λ b. b || has (map (k .setting) nexts) u) (met-near d u (k .setting r, o, in-layer d r i, s))
+        ∙ ap (λ b. b || has (map (k .setting) nexts) u) (met-near d u (k .setting r, o, in-layer m k t g d r i, s))
         ∙ ap₂ (λ b l. (has b u || has l u) || has (map (k .setting) nexts) u) (sym (before-settings d)) (sym (layer-settings m k t g d))
         ∙ or-assoc (has (map (k .setting) (layer-before m k g d)) u) (has (map (k .setting) (layer m k g d)) u) (has (map (k .setting) nexts) u)
 

@@ -13,3 +13,6 @@ pub mod Duplicates
 pub mod Earlier
 pub mod Ways
 pub mod Order
+pub mod Earliest
+pub mod Through
+pub mod Relay

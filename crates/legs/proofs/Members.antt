@@ -55,3 +55,14 @@ module _ {X : Type 0} where
   told-has f x [] i = absurd i
   told-has f x (y ∷ xs) (inl e) = has-here (f y) (f x) (map f xs) (ap f e)
   told-has f x (y ∷ xs) (inr i) = has-later (f y) (f x) (map f xs) (told-has f x xs i)
+
+module _ {X Y : Type 0} (f : X → Y) where
+  pub in-map : (x : X) (xs : List X) → In x xs → In (f x) (map f xs)
+  in-map x [] i = i
+  in-map x (y ∷ xs) (inl e) = inl (ap f e)
+  in-map x (y ∷ xs) (inr i) = inr (in-map x xs i)
+
+  pub map-in : (y : Y) (xs : List X) → In y (map f xs) → (x : X) × In x xs × (f x ≡ y)
+  map-in y [] i = absurd i
+  map-in y (x ∷ xs) (inl e) = (x, inl refl, e)
+  map-in y (x ∷ xs) (inr i) = let r = map-in y xs i in (r .0, inr (r .1), r .2)

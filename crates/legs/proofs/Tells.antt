@@ -8,7 +8,9 @@ use Rattle.std.specs.declared.option.Option.the-variants.{Some, None}
 use Rattle.std.proofs.shelf.Lists.{map-append, map-id}
 use Rattle.plant.specs.Meaning.{Meaning}
 use Rattle.legs.specs.Kinds.{Kind, plain, Tells}
-use Rattle.legs.specs.Layers.{Leg, fits, arrival, reached, arrivals, kept, grown, layer, settings}
+use Rattle.legs.specs.Layers.{Leg, has, fits, arrival, reached, arrivals, kept, grown, layer, settings}
+use Rattle.legs.specs.Laws.{Holds}
+use Rattle.legs.proofs.Members.{In, told-has}
 use Rattle.legs.proofs.Kept.{map-kept}
 
 module _ {R : Type 0} (m : Meaning) (k : Kind R) (t : Tells k) where
@@ -50,3 +52,7 @@ module _ {R : Type 0} (m : Meaning) (k : Kind R) (t : Tells k) where
 
     pub met-settings : (d : ℕ) → grown m k g d .met ≡ grown m plain g d .met
     met-settings d = same-layers d .1
+
+    -- a record of layer d stands at a setting of that layer
+    pub in-layer : (d : ℕ) (r : R) → In r (layer m k g d) → Holds m g d (k .setting r)
+    in-layer d r i = ap (λ l. has l (k .setting r)) (sym (layer-settings d)) ∙ told-has (k .setting) r (layer m k g d) i

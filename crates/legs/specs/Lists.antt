@@ -3,7 +3,7 @@ use mathlib.Core.Path.{_≡_}
 use mathlib.Core.Bool.{cond}
 use mathlib.Core.Logic.{_⊎_}
 use mathlib.Core.List.{List, [], _∷_}
-use Prim.Native.Nat.{ℕ, zero, suc, _<_}
+use Prim.Native.Nat.{ℕ, zero, suc, _≤_, _<_}
 use lib.Dec.{eqb}
 use lib.ListN.{length}
 use Rattle.std.specs.declared.option.Option.{Option}
@@ -15,6 +15,14 @@ abbrev pub Earlier : List ℕ → List ℕ → Type 0
 Earlier [] ps = ⊥
 Earlier (o ∷ os) [] = ⊥
 Earlier (o ∷ os) (p ∷ ps) = (o < p) ⊎ ((o ≡ p) × Earlier os ps)
+
+-- some list of n operations leads from s to t
+abbrev pub Linked : Meaning → ℕ → ℕ → ℕ → Type 0
+Linked m n s t = (os : List ℕ) × (length os ≡ n) × Leads m s os t
+
+-- the least length of a list from s to t is n
+abbrev pub Distance : Meaning → ℕ → ℕ → ℕ → Type 0
+Distance m n s t = Linked m n s t × ((k : ℕ) → Linked m k s t → n ≤ k)
 
 -- the list is the earliest of n operations that leads from s to t
 pub record Earliest (m : Meaning) (n s t : ℕ) (os : List ℕ) : Type 0 where
