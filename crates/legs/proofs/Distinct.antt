@@ -1,13 +1,13 @@
 -- Lists that hold no number twice: how they are made, and that they are no longer than a bound on their numbers. Assumes nothing.
-use mathlib.Core.Path.{_≡_, refl, sym, ap, subst, _∙_}
-use mathlib.Core.Bool.{Bool, true, false, not, _||_, _&&_, cond}
-use mathlib.Core.Logic.{_⊎_, inl, inr, ⊎-elim}
+use mathlib.Core.Path.{_≡_, refl, subst, _∙_}
+use mathlib.Core.Bool.{Bool, true, false, not, _||_, cond}
+use mathlib.Core.Logic.{⊎-elim}
 use mathlib.Core.List.{List, [], _∷_, _++_}
-use Prim.Native.Nat.{ℕ, zero, suc, _+_, _≤_, _<_}
+use Prim.Native.Nat.{ℕ, zero, suc, _≤_, _<_}
 use native.Mathlib.Omega.{arith}
 use lib.Dec.{eqb}
 use lib.ListN.{length}
-use Rattle.std.proofs.shelf.Tests.{cases-bool, cases-lt, cases-eq, eq-eqb, eqb-true, ne-eqb, both-ways, or-from, or-parts, or-left, false≢true}
+use Rattle.std.proofs.shelf.Tests.{cases-bool, cases-lt, eqb-true, both-ways, or-from}
 use Rattle.legs.specs.Kinds.{plain}
 use Rattle.legs.specs.Layers.{has, kept}
 use Rattle.legs.proofs.Members.{has-here, has-later, has-cases, has-append}

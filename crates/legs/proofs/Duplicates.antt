@@ -2,17 +2,17 @@
 use mathlib.Core.Path.{_≡_, refl, sym, ap, ap₂, subst, _∙_}
 use mathlib.Core.Bool.{Bool, true, false, _||_}
 use mathlib.Core.Logic.{⊎-elim}
-use mathlib.Core.List.{List, [], _∷_, _++_, map}
-use Prim.Native.Nat.{ℕ, zero, suc, _≤_, _<_}
+use mathlib.Core.List.{List, _++_, map}
+use Prim.Native.Nat.{ℕ, zero, suc}
 use native.Mathlib.Omega.{arith}
 use Rattle.std.proofs.shelf.Lists.{map-append}
-use Rattle.std.proofs.shelf.Tests.{cases-bool, or-cases, or-left, or-right, both-ways, false≢true}
+use Rattle.std.proofs.shelf.Tests.{or-cases, or-left, or-right}
 use Rattle.plant.specs.Meaning.{Meaning, Steps}
 use Rattle.plant.specs.Laws.{Lawful}
 use Rattle.legs.specs.Kinds.{Kind, plain, Tells}
-use Rattle.legs.specs.Layers.{Leg, has, grown, layer, settings, layer-before}
+use Rattle.legs.specs.Layers.{Leg, has, grown, layer, settings, layer-before, In}
 use Rattle.legs.specs.Laws.{Holds, Beside}
-use Rattle.legs.proofs.Members.{In, has-append, or-assoc}
+use Rattle.legs.proofs.Members.{has-append, or-assoc}
 use Rattle.legs.proofs.Tells.{layer-settings, met-settings, in-layer}
 use Rattle.legs.proofs.Layers.{met-by, met-layer, layer-met, near}
 

@@ -3,7 +3,7 @@ use mathlib.Core.Path.{_≡_, refl, sym, ap, subst, _∙_}
 use mathlib.Core.Bool.{Bool, true, false, cond}
 use mathlib.Core.Logic.{_↔_, _⊎_, inl, inr, ⊎-elim}
 use mathlib.Core.List.{List, [], _∷_}
-use Prim.Native.Nat.{ℕ, zero, suc, _≤_, _<_}
+use Prim.Native.Nat.{ℕ, zero, suc, _<_}
 use native.Mathlib.Omega.{arith}
 use lib.Dec.{eqb}
 use lib.ListN.{length}
@@ -98,10 +98,10 @@ module _ (m : Meaning) (lawful : Lawful m) where
           before (p ∷ ps) l b =
               ⊎-elim
               (λ same.
-                  let there : Leads m u ps t = subst (λ v. Leads m v ps t) (steps-once m s o (b .0) u (subst (λ x. Steps m s x (b .0)) (sym same) (b .1)) h) (b .2) in
-                  ⊎-elim (λ x. inl (ap (λ y. y ∷ qs) same ∙ ap (λ y. p ∷ y) x)) (λ x. inr (inr (same, x))) (rest .before-all ps (omega arith) there))
+              let there : Leads m u ps t = subst (λ v. Leads m v ps t) (steps-once m s o (b .0) u (subst (λ x. Steps m s x (b .0)) (sym same) (b .1)) h) (b .2) in
+              ⊎-elim (λ x. inl (ap (λ y. y ∷ qs) same ∙ ap (λ y. p ∷ y) x)) (λ x. inr (inr (same, x))) (rest .before-all ps (omega arith) there))
               (⊎-elim (λ lower. inr (inl lower))
-                  (λ higher. absurd (none-leads n (b .0) t ps (begun-none (λ v. earliest m n v t) p (b .0) (m .step s p) (b .1) (low p higher)) (omega arith) (b .2))))
+              (λ higher. absurd (none-leads n (b .0) t ps (begun-none (λ v. earliest m n v t) p (b .0) (m .step s p) (b .1) (low p higher)) (omega arith) (b .2))))
               (cases-order o p)
 
   pub earliest-unique : (n s t : ℕ) (os ps : List ℕ) → Earliest m n s t os → Earliest m n s t ps → os ≡ ps

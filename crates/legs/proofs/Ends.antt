@@ -1,18 +1,16 @@
 -- Where a leg ends, and that its length is the least length of a list within the bound. Over any lawful meaning.
-use mathlib.Core.Path.{_≡_, refl, sym, ap, subst, _∙_}
-use mathlib.Core.Bool.{Bool, true, false, _||_, cond}
-use mathlib.Core.Logic.{_↔_, _⊎_, inl, inr, ⊎-elim}
+use mathlib.Core.Path.{_≡_, refl, ap, subst, _∙_}
+use mathlib.Core.Bool.{Bool, true, false, cond}
+use mathlib.Core.Logic.{_↔_, ⊎-elim}
 use Prim.Native.Nat.{ℕ, zero, suc, _+_, _≤_, _<_}
 use native.Mathlib.Omega.{arith}
-use lib.Dec.{eqb}
-use Rattle.std.specs.declared.option.Option.{Option}
 use Rattle.std.specs.declared.option.Option.the-variants.{Some, None}
 use Rattle.std.proofs.shelf.Tests.{cases-bool, cases-lt, cases-order, cond-true, cond-false, eq-eqb, eqb-true, or-cases, or-left, or-right, both-ways}
 use Rattle.plant.specs.Meaning.{Meaning}
 use Rattle.plant.specs.Laws.{Lawful}
 use Rattle.legs.specs.Layers.{Leg, has, settings}
 use Rattle.legs.specs.Legs.{empty, ends, end-from, end, leg-length}
-use Rattle.legs.specs.Laws.{Holds, Reached-in, Least, None-within}
+use Rattle.legs.specs.Laws.{Holds, Reached-in}
 use Rattle.legs.proofs.Layers.{apart}
 use Rattle.legs.proofs.Reach.{layer-reached, none-behind, reach}
 
@@ -103,6 +101,6 @@ module _ (m : Meaning) (g : Leg) where
     pub none-within : (leg-length m g ≡ None) ↔ ((k : ℕ) → k ≤ g .bound → Reached-in m g k → ⊥)
     none-within = (
       λ e k l r. let q = reach m g lawful k l r in none-holds e (q .0) (omega (arith, q .1)) (q .2),
-      λ no. ⊎-elim (λ t. absurd (no (end m g) end-within (layer-reached m g (end m g) (g .target) t))) (λ f. cond-false _ (Some (end m g)) None f)
+      λ never. ⊎-elim (λ t. absurd (never (end m g) end-within (layer-reached m g (end m g) (g .target) t))) (λ f. cond-false _ (Some (end m g)) None f)
           (cases-bool (has (settings m g (end m g)) (g .target))),
     )

@@ -1,8 +1,8 @@
 -- The settings met are distinct and below the plant's number, so there are no more of them. Over any lawful meaning.
-use mathlib.Core.Path.{_≡_, refl, sym, ap, subst, _∙_}
+use mathlib.Core.Path.{_≡_, refl, sym, subst, _∙_}
 use mathlib.Core.Bool.{Bool, true, false, cond}
-use mathlib.Core.List.{List, [], _∷_, _++_, map}
-use Prim.Native.Nat.{ℕ, zero, suc, _+_, _≤_, _<_}
+use mathlib.Core.List.{[], _∷_, _++_, map}
+use Prim.Native.Nat.{ℕ, zero, suc, _≤_, _<_}
 use native.Mathlib.Omega.{arith}
 use lib.ListN.{length}
 use Rattle.std.proofs.shelf.Lists.{map-id, length-append, length-map}
@@ -11,7 +11,7 @@ use Rattle.plant.specs.Meaning.{Meaning}
 use Rattle.plant.specs.Laws.{Lawful}
 use Rattle.legs.specs.Kinds.{plain}
 use Rattle.legs.specs.Layers.{Leg, has, fits, arrivals, grown, settings}
-use Rattle.legs.specs.Legs.{sizes, size}
+use Rattle.legs.specs.Legs.{sizes}
 use Rattle.legs.specs.Laws.{Holds}
 use Rattle.legs.proofs.Layers.{layer-first, layer-next, met-layer}
 use Rattle.legs.proofs.Distinct.{Distinct, distinct-append, distinct-kept, pigeonhole}

@@ -1,14 +1,13 @@
 -- Which arrivals are kept, how the kept grow by one, and that a map between kinds keeps the same ones. Assumes nothing.
 use mathlib.Core.Path.{_≡_, refl, sym, ap, subst, _∙_}
 use mathlib.Core.Bool.{Bool, true, false, not, _&&_, _||_, cond}
-use mathlib.Core.Logic.{_⊎_, inl, inr, ⊎-elim}
+use mathlib.Core.Logic.{inl, inr, ⊎-elim}
 use mathlib.Core.List.{List, [], _∷_, _++_, map}
-use Prim.Native.Nat.{ℕ, zero, suc}
+use Prim.Native.Nat.{ℕ}
 use lib.Dec.{eqb}
 use Rattle.std.proofs.shelf.Tests.{cases-eq, eq-eqb, ne-eqb, not-true, and-parts, and-from, not-from-false, or-left, or-right, or-parts}
 use Rattle.legs.specs.Kinds.{Kind, plain}
-use Rattle.legs.specs.Layers.{has, kept}
-use Rattle.legs.proofs.Members.{In}
+use Rattle.legs.specs.Layers.{has, kept, In}
 
 -- a setting is kept where it arrives, is not met and fits
 kept-at-head : (met-already fit : Bool) (v : ℕ) (rest : List ℕ) → has rest v ≡ false → has (cond (met-already || not fit) rest (v ∷ rest)) v ≡ (not met-already && fit)

@@ -1,7 +1,5 @@
 -- The laws of legs, over any lawful meaning.
-use Rattle.plant.specs.Meaning.{Meaning}
-use Rattle.plant.specs.Laws.{Lawful}
-use Rattle.legs.specs.Laws.{Leg-laws, Legs-lawful}
+use Rattle.legs.specs.Laws.{Legs-lawful}
 use Rattle.legs.proofs.Layers.{layered, apart, near}
 use Rattle.legs.proofs.Ends.{least, none-within}
 use Rattle.legs.proofs.Few.{few}

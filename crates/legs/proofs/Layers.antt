@@ -2,16 +2,16 @@
 use mathlib.Core.Path.{_≡_, refl, sym, ap, subst, _∙_}
 use mathlib.Core.Bool.{Bool, true, false, _||_, cond}
 use mathlib.Core.Logic.{_↔_, _⊎_, inl, inr, ⊎-elim}
-use mathlib.Core.List.{List, [], _∷_, _++_, map}
+use mathlib.Core.List.{[], _∷_, map}
 use Prim.Native.Nat.{ℕ, zero, suc, _+_, _≤_, _<_}
 use native.Mathlib.Omega.{arith}
 use Rattle.std.proofs.shelf.Lists.{map-id}
-use Rattle.std.proofs.shelf.Tests.{both-ways, leb-true, le-leb, or-cases, or-left, or-right, or-parts, cases-bool, cases-lt, cases-order, false≢true}
-use Rattle.plant.specs.Meaning.{Meaning, Steps}
+use Rattle.std.proofs.shelf.Tests.{both-ways, leb-true, le-leb, or-cases, or-left, or-right, cases-bool, cases-lt, cases-order, false≢true}
+use Rattle.plant.specs.Meaning.{Meaning}
 use Rattle.plant.specs.Laws.{Lawful}
-use Rattle.legs.specs.Kinds.{Kind, plain}
-use Rattle.legs.specs.Layers.{Leg, has, fits, arrivals, kept, grown, settings}
-use Rattle.legs.specs.Laws.{Holds, Beside, Layered, Apart, Near}
+use Rattle.legs.specs.Kinds.{plain}
+use Rattle.legs.specs.Layers.{Leg, has, fits, arrivals, grown, settings}
+use Rattle.legs.specs.Laws.{Holds, Beside}
 use Rattle.legs.proofs.Members.{has-here, has-cases, has-append}
 use Rattle.legs.proofs.Arrivals.{arrivals-step, step-arrivals}
 use Rattle.legs.proofs.Kept.{kept-parts, kept-from}

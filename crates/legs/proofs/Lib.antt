@@ -16,3 +16,7 @@ pub mod Order
 pub mod Earliest
 pub mod Through
 pub mod Relay
+pub mod Parts
+pub mod Fetch
+pub mod Plans
+pub mod PlanLaws

@@ -6,7 +6,7 @@ use mathlib.Core.List.{List, [], _∷_, _++_, map}
 use Prim.Native.Nat.{ℕ}
 use lib.Dec.{eqb}
 use Rattle.std.proofs.shelf.Tests.{eq-eqb, eqb-true, or-cases, or-left, or-right}
-use Rattle.legs.specs.Layers.{has}
+use Rattle.legs.specs.Layers.{has, In}
 
 pub has-here : (v u : ℕ) (vs : List ℕ) → v ≡ u → has (v ∷ vs) u ≡ true
 has-here v u vs e = or-left _ _ (eq-eqb v u e)
@@ -24,11 +24,6 @@ or-assoc false y z = refl
 pub has-append : (us vs : List ℕ) (u : ℕ) → has (us ++ vs) u ≡ (has us u || has vs u)
 has-append [] vs u = refl
 has-append (w ∷ us) vs u = ap (λ b. eqb w u || b) (has-append us vs u) ∙ sym (or-assoc (eqb w u) (has us u) (has vs u))
-
--- x stands in the list
-abbrev pub In : {X : Type 0} → X → List X → Type 0
-In x [] = ⊥
-In x (y ∷ ys) = (y ≡ x) ⊎ In x ys
 
 module _ {X : Type 0} where
   pub in-left : (x : X) (xs ys : List X) → In x xs → In x (xs ++ ys)

@@ -1,15 +1,15 @@
 -- What a layer holds is reached by a list as long as its depth, and a list within the bound ends in a layer. Over any lawful meaning.
-use mathlib.Core.Path.{_≡_, refl, sym, ap, subst, _∙_}
-use mathlib.Core.Bool.{true, false}
+use mathlib.Core.Path.{_≡_, refl, ap, subst, _∙_}
+use mathlib.Core.Bool.{true}
 use mathlib.Core.Logic.{⊎-elim}
 use mathlib.Core.List.{List, [], _∷_, _++_}
-use Prim.Native.Nat.{ℕ, zero, suc, _+_, _≤_, _<_}
+use Prim.Native.Nat.{ℕ, zero, suc, _+_, _≤_}
 use native.Mathlib.Omega.{arith}
 use native.Mathlib.Numerals.{add-one}
 use lib.ListN.{length}
 use Rattle.std.proofs.shelf.Lists.{length-push}
 use Rattle.std.proofs.shelf.Tests.{cases-lt, false≢true}
-use Rattle.plant.specs.Meaning.{Meaning, Steps, Leads}
+use Rattle.plant.specs.Meaning.{Meaning, Leads}
 use Rattle.plant.specs.Laws.{Lawful}
 use Rattle.legs.specs.Layers.{Leg, has, settings}
 use Rattle.legs.specs.Legs.{empty}

@@ -2,8 +2,8 @@
 use mathlib.Core.Path.{_≡_, refl, sym, ap, subst, _∙_}
 use mathlib.Core.Bool.{Bool, true, false, cond}
 use mathlib.Core.Logic.{_⊎_, inl, inr, ⊎-elim}
-use mathlib.Core.List.{List, [], _∷_, _++_, map, reverse}
-use Prim.Native.Nat.{ℕ, zero, suc, _+_, _-_, _/_, _≤_, _<_}
+use mathlib.Core.List.{List, [], _∷_, _++_, reverse}
+use Prim.Native.Nat.{ℕ, zero, suc, _-_, _/_, _≤_}
 use native.Mathlib.Omega.{arith}
 use lib.Dec.{eqb}
 use lib.ListN.{length, take, drop}
@@ -12,11 +12,11 @@ use Rattle.std.proofs.shelf.Tests.{cases-lt, eq-eqb, ne-eqb, cond-true, cond-fa
 use Rattle.plant.specs.Meaning.{Meaning, Steps, Leads}
 use Rattle.plant.specs.Laws.{Lawful}
 use Rattle.legs.specs.Kinds.{Kind, Tells}
-use Rattle.legs.specs.Layers.{Leg, has, fits, grown, layer, settings}
+use Rattle.legs.specs.Layers.{Leg, has, fits, grown, layer, In}
 use Rattle.legs.specs.Laws.{Holds, Reached-in}
 use Rattle.legs.specs.Lists.{Earlier, Earliest}
 use Rattle.legs.specs.Relays.{Relayed, relays}
-use Rattle.legs.proofs.Members.{In, has-told, in-map, map-in}
+use Rattle.legs.proofs.Members.{has-told, in-map, map-in}
 use Rattle.legs.proofs.Tells.{layer-settings, in-layer}
 use Rattle.legs.proofs.Kept.{kept-in}
 use Rattle.legs.proofs.Earlier.{Upto, upto-then, upto-more, before-earlier}
@@ -49,10 +49,15 @@ module _ {R : Type 0} (m : Meaning) (k : Kind R) (t : Tells k) (g : Leg) where
       let h = way-through d (r .0) (r .1) in
       let at : k .setting (w .at) ≡ r .3 = ap (λ v. k .setting (v .at)) (sym (r .5)) ∙ t .arrives (suc d) (r .0 .at) (r .3) in
       let long : suc d ≡ suc (length (r .0 .ops)) = ap suc (sym (h .1)) in
-      subst (λ l. Through m g l (k .setting (w .at)) × (length l ≡ suc d)) (ap (λ v. v .ops) (r .5))
-      ( ( k .setting (r .0 .at), h .0, subst (Steps m (k .setting (r .0 .at)) (r .2)) (sym at) (r .4)
-        , subst (λ n. Holds m g n (k .setting (w .at))) long (way-holds (suc d) w i) )
-      , ap suc (h .1) )
+      subst (λ l. Through m g l (k .setting (w .at)) × (length l ≡ suc d)) (ap (λ v. v .ops) (r .5)) (
+        (
+          k .setting (r .0 .at),
+          h .0,
+          subst (Steps m (k .setting (r .0 .at)) (r .2)) (sym at) (r .4),
+          subst (λ n. Holds m g n (k .setting (w .at))) long (way-holds (suc d) w i),
+        ),
+        ap suc (h .1),
+      )
 
   module _ (lawful : Lawful m) where
     -- a way came by the earliest list through the layers
@@ -78,7 +83,7 @@ module _ {R : Type 0} (m : Meaning) (k : Kind R) (t : Tells k) (g : Leg) where
         record {
           leads = subst (Leads m (g .start) (reverse (w .ops))) e (through-leads m g (w .ops) (k .setting (w .at)) (h .0));
           long = length-reverse (w .ops) ∙ h .1;
-          before-all = before
+          before-all = before;
         }
       where
         before : (ps : List ℕ) → length ps ≡ n → Leads m (g .start) ps (g .target) → (reverse (w .ops) ≡ ps) ⊎ Earlier (reverse (w .ops)) ps
@@ -91,7 +96,7 @@ module _ {R : Type 0} (m : Meaning) (k : Kind R) (t : Tells k) (g : Leg) where
             (λ b. inr (subst (Earlier (reverse (w .ops))) back (before-earlier (w .ops) (reverse ps) b)))
             (way-least (reverse ps) w (subst (λ d. In w (ways m k g d)) (sym long) i) (subst (Through m g (reverse ps)) (sym e) through))
 
-relays-tell : (n : ℕ) → Tells (relays n)
+pub relays-tell : (n : ℕ) → Tells (relays n)
 relays-tell n = record { begins = λ s. refl; arrives = λ d r u. refl }
 
 module _ (m : Meaning) (n : ℕ) (g : Leg) (two : 2 ≤ n) where
@@ -103,18 +108,18 @@ module _ (m : Meaning) (n : ℕ) (g : Leg) (two : 2 ≤ n) where
       let handed : w .at .relay ≡ cond (eqb (suc d) (n / 2)) (r .3) (r .0 .at .relay) = ap (λ v. v .at .relay) (sym (r .5)) in
       ⊎-elim
       (λ later.
-          let same : w .at .relay ≡ r .0 .at .relay = handed ∙ cond-false (eqb (suc d) (n / 2)) (r .3) (r .0 .at .relay) (ne-eqb (suc d) (n / 2) (λ e. omega (arith, e))) in
-          let one : suc d - n / 2 ≡ suc (d - n / 2) = omega arith in
-          let ops : drop (suc d - n / 2) (w .ops) ≡ drop (d - n / 2) (r .0 .ops) = ap (λ x. drop x (w .ops)) one ∙ ap (λ v. drop (suc (d - n / 2)) (v .ops)) (sym (r .5)) in
-          subst (λ x. Leads m (g .start) (reverse (drop (suc d - n / 2) (w .ops))) x) (sym same)
-          (subst (λ x. Leads m (g .start) (reverse x) (r .0 .at .relay)) (sym ops) (relay-on-way d (r .0) (r .1) (omega arith))))
+      let same : w .at .relay ≡ r .0 .at .relay = handed ∙ cond-false (eqb (suc d) (n / 2)) (r .3) (r .0 .at .relay) (ne-eqb (suc d) (n / 2) (λ e. omega (arith, e))) in
+      let one : suc d - n / 2 ≡ suc (d - n / 2) = omega arith in
+      let ops : drop (suc d - n / 2) (w .ops) ≡ drop (d - n / 2) (r .0 .ops) = ap (λ x. drop x (w .ops)) one ∙ ap (λ v. drop (suc (d - n / 2)) (v .ops)) (sym (r .5)) in
+      subst (λ x. Leads m (g .start) (reverse (drop (suc d - n / 2) (w .ops))) x) (sym same)
+      (subst (λ x. Leads m (g .start) (reverse x) (r .0 .at .relay)) (sym ops) (relay-on-way d (r .0) (r .1) (omega arith))))
       (λ here.
-          let same : w .at .relay ≡ r .3 = handed ∙ cond-true (eqb (suc d) (n / 2)) (r .3) (r .0 .at .relay) (eq-eqb (suc d) (n / 2) (omega arith)) in
-          let none : 0 ≡ suc d - n / 2 = omega arith in
-          let at : w .at .setting ≡ r .3 = ap (λ v. v .at .setting) (sym (r .5)) in
-          let h = way-through m (relays n) (relays-tell n) g (suc d) w i in
-          subst (λ x. Leads m (g .start) (reverse (drop x (w .ops))) (w .at .relay)) none
-          (subst (Leads m (g .start) (reverse (w .ops))) (at ∙ sym same) (through-leads m g (w .ops) (w .at .setting) (h .0))))
+      let same : w .at .relay ≡ r .3 = handed ∙ cond-true (eqb (suc d) (n / 2)) (r .3) (r .0 .at .relay) (eq-eqb (suc d) (n / 2) (omega arith)) in
+      let none : 0 ≡ suc d - n / 2 = omega arith in
+      let at : w .at .setting ≡ r .3 = ap (λ v. v .at .setting) (sym (r .5)) in
+      let h = way-through m (relays n) (relays-tell n) g (suc d) w i in
+      subst (λ x. Leads m (g .start) (reverse (drop x (w .ops))) (w .at .relay)) none
+      (subst (Leads m (g .start) (reverse (w .ops))) (at ∙ sym same) (through-leads m g (w .ops) (w .at .setting) (h .0))))
       (cases-lt (n / 2) (suc d))
 
   -- after n / 2 operations of the list that a record came by
@@ -122,9 +127,9 @@ module _ (m : Meaning) (n : ℕ) (g : Leg) (two : 2 ≤ n) where
   relay-part-way d w i l =
       let h = way-through m (relays n) (relays-tell n) g d w i in
       let parts : reverse (w .ops) ≡ reverse (drop (d - n / 2) (w .ops)) ++ reverse (take (d - n / 2) (w .ops)) =
-          ap reverse (sym (take-append-drop (d - n / 2) (w .ops))) ∙ reverse-append (take (d - n / 2) (w .ops)) (drop (d - n / 2) (w .ops)) in
+      ap reverse (sym (take-append-drop (d - n / 2) (w .ops))) ∙ reverse-append (take (d - n / 2) (w .ops)) (drop (d - n / 2) (w .ops)) in
       let long : length (reverse (drop (d - n / 2) (w .ops))) ≡ n / 2 =
-          length-reverse (drop (d - n / 2) (w .ops)) ∙ length-drop (d - n / 2) (w .ops) ∙ omega (arith, h .1) in
+      length-reverse (drop (d - n / 2) (w .ops)) ∙ length-drop (d - n / 2) (w .ops) ∙ omega (arith, h .1) in
       let front : reverse (drop (d - n / 2) (w .ops)) ≡ take (n / 2) (reverse (w .ops)) =
-          sym (ap (take (n / 2)) parts ∙ take-at (reverse (drop (d - n / 2) (w .ops))) (reverse (take (d - n / 2) (w .ops))) (n / 2) long) in
+      sym (ap (take (n / 2)) parts ∙ take-at (reverse (drop (d - n / 2) (w .ops))) (reverse (take (d - n / 2) (w .ops))) (n / 2) long) in
       subst (λ x. Leads m (g .start) x (w .at .relay)) front (relay-on-way d w i l)

@@ -8,9 +8,9 @@ use Rattle.std.specs.declared.option.Option.the-variants.{Some, None}
 use Rattle.std.proofs.shelf.Lists.{map-append, map-id}
 use Rattle.plant.specs.Meaning.{Meaning}
 use Rattle.legs.specs.Kinds.{Kind, plain, Tells}
-use Rattle.legs.specs.Layers.{Leg, has, fits, arrival, reached, arrivals, kept, grown, layer, settings}
+use Rattle.legs.specs.Layers.{Leg, has, fits, arrival, reached, arrivals, kept, grown, layer, settings, In}
 use Rattle.legs.specs.Laws.{Holds}
-use Rattle.legs.proofs.Members.{In, told-has}
+use Rattle.legs.proofs.Members.{told-has}
 use Rattle.legs.proofs.Kept.{map-kept}
 
 module _ {R : Type 0} (m : Meaning) (k : Kind R) (t : Tells k) where

@@ -1,9 +1,8 @@
 -- Lists that pass through the layers, one setting each: every shortest list does. Over any lawful meaning.
-use mathlib.Core.Path.{_≡_, refl, sym, ap, subst, _∙_}
-use mathlib.Core.Bool.{true, false}
+use mathlib.Core.Path.{_≡_, sym, subst}
 use mathlib.Core.Logic.{⊎-elim}
-use mathlib.Core.List.{List, [], _∷_, _++_, reverse, reverseAux, reverse-cons}
-use Prim.Native.Nat.{ℕ, zero, suc, _+_, _≤_, _<_}
+use mathlib.Core.List.{List, [], _∷_, reverse, reverseAux, reverse-cons}
+use Prim.Native.Nat.{ℕ, zero, suc, _+_, _≤_}
 use native.Mathlib.Omega.{arith}
 use lib.ListN.{length}
 use Rattle.std.proofs.shelf.Tests.{cases-bool}
@@ -38,12 +37,12 @@ module _ (m : Meaning) (g : Leg) where
     on-the-way os ps o v u h s l e =
         ⊎-elim
         (λ t.
-            let r = met-layer m g (length ps) u t in
-            let q = reach-from m g lawful os (r .0) u (r .2) l (omega (arith, r .1)) in
-            let low = least (q .0) (layer-reached m g (q .0) (g .target) (q .2)) in
-            absurd (omega (arith, r .1, q .1, low)))
+        let r = met-layer m g (length ps) u t in
+        let q = reach-from m g lawful os (r .0) u (r .2) l (omega (arith, r .1)) in
+        let low = least (q .0) (layer-reached m g (q .0) (g .target) (q .2)) in
+        absurd (omega (arith, r .1, q .1, low)))
         (λ f. let est = lawful .estimate-least os u (g .target) l in
-            next-holds m g lawful (length ps) u (v, o, through-holds ps v h, s) f (omega (arith, est)))
+        next-holds m g lawful (length ps) u (v, o, through-holds ps v h, s) f (omega (arith, est)))
         (cases-bool (met-by m g (length ps) u))
 
     through-on : (os ps : List ℕ) (v : ℕ) → Through ps v → Leads m v os (g .target) → length ps + length os ≡ n → Through (reverseAux os ps) (g .target)

@@ -1,9 +1,9 @@
 -- Layers whose records carry the list that they came by. Assumes nothing.
 use mathlib.Core.Path.{_≡_, refl, sym, ap, ap₂, subst, _∙_}
 use mathlib.Core.Bool.{Bool, true, false, cond}
-use mathlib.Core.Logic.{_⊎_, inl, inr, ⊎-elim}
+use mathlib.Core.Logic.{inl, inr, ⊎-elim}
 use mathlib.Core.List.{List, [], _∷_, _++_, map}
-use Prim.Native.Nat.{ℕ, zero, suc, _≤_, _<_}
+use Prim.Native.Nat.{ℕ, zero, suc, _<_}
 use native.Mathlib.Omega.{arith}
 use Rattle.std.specs.declared.option.Option.{Option}
 use Rattle.std.specs.declared.option.Option.the-variants.{Some, None}
@@ -12,8 +12,8 @@ use Rattle.std.proofs.shelf.Tests.{cases-lt}
 use Rattle.plant.specs.Meaning.{Meaning, Steps}
 use Rattle.plant.specs.Laws.{Lawful}
 use Rattle.legs.specs.Kinds.{Kind}
-use Rattle.legs.specs.Layers.{Leg, fits, arrival, reached, arrivals, kept, grown, layer}
-use Rattle.legs.proofs.Members.{In, in-left, in-right, in-append-cases}
+use Rattle.legs.specs.Layers.{Leg, fits, arrival, reached, arrivals, kept, grown, layer, In}
+use Rattle.legs.proofs.Members.{in-left, in-right, in-append-cases}
 use Rattle.legs.proofs.Arrivals.{step-below}
 use Rattle.legs.proofs.Kept.{map-kept}
 
@@ -29,7 +29,7 @@ module _ {R : Type 0} (m : Meaning) (k : Kind R) where
       record {
         setting = λ w. k .setting (w .at);
         begin = λ s. record { at = k .begin s; ops = [] };
-        onward = λ d w u. record { at = k .onward d (w .at) u; ops = w .ops }
+        onward = λ d w u. record { at = k .onward d (w .at) u; ops = w .ops };
       }
 
   abbrev pub way-onward : ℕ → Way R → ℕ → ℕ → Way R
@@ -100,7 +100,7 @@ module _ {R : Type 0} (m : Meaning) (k : Kind R) where
       ⊎-elim
       (λ b. in-left (way-onward d w o u) (way-reached d w n) _ (reached-in d w n o u b s))
       (λ b. let e : o ≡ n = omega arith in
-          in-right (way-onward d w o u) (way-reached d w n) _ (subst (λ t. In (way-onward d w o u) (way-arrival d w n t)) (sym s ∙ ap (m .step (k .setting (w .at))) e) (inl (ap (λ p. way-onward d w p u) (sym e)))))
+      in-right (way-onward d w o u) (way-reached d w n) _ (subst (λ t. In (way-onward d w o u) (way-arrival d w n t)) (sym s ∙ ap (m .step (k .setting (w .at))) e) (inl (ap (λ p. way-onward d w p u) (sym e)))))
       (cases-lt o n)
 
   pub in-arrivals : (d : ℕ) (ws : List (Way R)) (v : Way R) → In v (way-arrivals d ws) → (w : Way R) × In w ws × One-on d w v

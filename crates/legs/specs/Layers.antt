@@ -1,5 +1,7 @@
 -- The layers of a leg, over the meaning of any plant and for any kind of record. Assumes nothing.
-use mathlib.Core.Bool.{Bool, true, false, not, _||_, cond}
+use mathlib.Core.Path.{_≡_}
+use mathlib.Core.Logic.{_⊎_}
+use mathlib.Core.Bool.{Bool, false, not, _||_, cond}
 use mathlib.Core.List.{List, [], _∷_, _++_, map}
 use Prim.Native.Nat.{ℕ, zero, suc, _+_}
 use lib.Dec.{eqb, leb}
@@ -18,6 +20,11 @@ pub record Leg : Type 0 where
 abbrev pub has : List ℕ → ℕ → Bool
 has [] u = false
 has (v ∷ vs) u = eqb v u || has vs u
+
+-- x stands in the list
+abbrev pub In : {X : Type 0} → X → List X → Type 0
+In x [] = ⊥
+In x (y ∷ ys) = (y ≡ x) ⊎ In x ys
 
 -- whether u, met at depth d, can still reach the target within the bound, as far as the estimate tells
 abbrev pub fits : Meaning → Leg → ℕ → ℕ → Bool

@@ -5,3 +5,4 @@ pub mod Laws
 pub mod Lists
 pub mod Relays
 pub mod Plans
+pub mod PlanLaws

@@ -32,12 +32,11 @@ fetch-leg n s t = record { start = s; target = t; bound = n }
 abbrev pub halved : Meaning → ℕ → ℕ → ℕ → ℕ → List Leg
 halved m zero n s t = []
 halved m (suc f) n s t =
-    elim (leb 2 n)
-    [
-    true ↦
-        let r = halfway m n s t in
-        fetch-leg n s t ∷ (halved m f (n / 2) s r ++ halved m f (n - n / 2) r t)
-    | false ↦ []
+    elim (leb 2 n) [
+      | true ↦
+          let r = halfway m n s t in
+          fetch-leg n s t ∷ (halved m f (n / 2) s r ++ halved m f (n - n / 2) r t)
+      | false ↦ []
     ]
 
 -- the legs that a fetch of length n from s to t takes

@@ -15,5 +15,5 @@ relays n =
     record {
       setting = λ r. r .setting;
       begin = λ s. record { setting = s; relay = 0 };
-      onward = λ d r u. record { setting = u; relay = cond (eqb d (n / 2)) u (r .relay) }
+      onward = λ d r u. record { setting = u; relay = cond (eqb d (n / 2)) u (r .relay) };
     }
