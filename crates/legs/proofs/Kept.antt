@@ -116,6 +116,14 @@ module _ {R : Type 0} (k : Kind R) (fit : ℕ → Bool) where
       push-under (has met (k .setting p) || not (fit (k .setting p))) p (kept k fit (k .setting p ∷ met) rs) _ _ (kept-push (k .setting p ∷ met) rs r)
       ∙ ap (λ b. kept k fit met (p ∷ rs) ++ cond b [] (r ∷ [])) (refused-under met (kept k fit (k .setting p ∷ met) rs) p (k .setting r))
 
+-- what is kept of more arrivals begins with what is kept of the first ones
+module _ {R : Type 0} (k : Kind R) (fit : ℕ → Bool) where
+  pub kept-front : (met : List ℕ) (rs qs : List R) → (more : List R) × (kept k fit met rs ++ more ≡ kept k fit met (rs ++ qs))
+  kept-front met [] qs = (kept k fit met qs, refl)
+  kept-front met (p ∷ rs) qs =
+      let r = kept-front (k .setting p ∷ met) rs qs in
+      (r .0, sym (push-under k fit (has met (k .setting p) || not (fit (k .setting p))) p (kept k fit (k .setting p ∷ met) rs) (kept k fit (k .setting p ∷ met) (rs ++ qs)) (r .0) (sym (r .1))))
+
 -- what is kept was there, and was not met
 module _ {R : Type 0} (k : Kind R) (fit : ℕ → Bool) where
   pub kept-in : (met : List ℕ) (rs : List R) (r : R) → In r (kept k fit met rs) → In r rs

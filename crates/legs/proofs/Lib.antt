@@ -20,3 +20,4 @@ pub mod Parts
 pub mod Fetch
 pub mod Plans
 pub mod PlanLaws
+pub mod Filling
