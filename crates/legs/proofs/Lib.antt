@@ -18,6 +18,7 @@ pub mod Through
 pub mod Relay
 pub mod Parts
 pub mod Fetch
+pub mod Answers
 pub mod Plans
 pub mod PlanLaws
 pub mod Filling

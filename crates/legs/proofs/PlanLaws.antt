@@ -3,7 +3,7 @@ use Rattle.legs.specs.PlanLaws.{Plans-lawful}
 use Rattle.legs.proofs.Earliest.{found-earliest, earliest-found, earliest-none}
 use Rattle.legs.proofs.Parts.{parts}
 use Rattle.legs.proofs.Fetch.{halves, fetches, relays-halfway}
-use Rattle.legs.proofs.Plans.{no-such-setting, bound-high, overfull, out-of-reach, accepted}
+use Rattle.legs.proofs.Plans.{measures, plans}
 
 pub plans-lawful : Plans-lawful
 plans-lawful m lawful =
@@ -14,9 +14,6 @@ plans-lawful m lawful =
       relays-halfway = relays-halfway m lawful;
       fetches = fetches m lawful;
       halves = halves m;
-      no-such-setting = no-such-setting m;
-      bound = bound-high m;
-      overfull = overfull m;
-      out-of-reach = λ g records. out-of-reach m g records lawful;
-      accepted = λ g records. accepted m g records lawful;
+      measures = measures m lawful;
+      plans = plans m lawful
     }

@@ -5,5 +5,6 @@ pub mod Legs
 pub mod Laws
 pub mod Lists
 pub mod Relays
+pub mod Answers
 pub mod Plans
 pub mod PlanLaws

@@ -5,15 +5,18 @@ use mathlib.Core.List.{List, _∷_, _++_}
 use Prim.Native.Nat.{ℕ, _-_, _/_, _≤_, _<_}
 use lib.ListN.{length, take, drop}
 use Rattle.std.specs.declared.option.Option.the-variants.{Some, None}
+use Rattle.std.specs.declared.result.Result.{Result}
 use Rattle.std.specs.declared.result.Result.the-variants.{Ok, Err}
 use Rattle.plant.specs.Meaning.{Meaning}
 use Rattle.plant.specs.Laws.{Lawful}
+use Rattle.plant.specs.declared.refusal.Refusal.{Refusal}
 use Rattle.plant.specs.declared.refusal.Refusal.the-variants.{NoSuchSetting, Bound, Overfull, OutOfReach}
 use Rattle.legs.specs.Layers.{Leg, In, layer}
-use Rattle.legs.specs.Legs.{leg-length, need}
+use Rattle.legs.specs.Legs.{leg-length, expanded, need}
 use Rattle.legs.specs.Lists.{Linked, Distance, Earliest, earliest, after}
 use Rattle.legs.specs.Relays.{Relayed, relays}
-use Rattle.legs.specs.Plans.{Plan, halfway, fetch-leg, fetch-legs, plan-legs, count, planned}
+use Rattle.legs.specs.Answers.{Counted, measured}
+use Rattle.legs.specs.Plans.{halfway, fetch-leg, fetch-legs, plan-legs, count, planned}
 
 -- the search finds the earliest list of a length, and exactly where there is one
 abbrev pub Finds : Meaning → Type 0
@@ -49,13 +52,34 @@ Halves m =
 abbrev pub In-range : Meaning → Leg → Type 0
 In-range m g = (g .start < m .settings) × (g .target < m .settings) × (g .bound ≤ 255)
 
--- no leg of the plan needs more records than there are
-abbrev pub Roomy : Meaning → Leg → ℕ → Type 0
-Roomy m g records = (l : Leg) → In l (plan-legs m g) → need m l ≤ records
+-- no list within the bound leads from start to target
+abbrev pub Unreached : Meaning → Leg → Type 0
+Unreached m g = (k : ℕ) → k ≤ g .bound → Linked m k (g .start) (g .target) → ⊥
 
--- the list is the earliest of the least length from start to target, and that is within the bound
-abbrev pub Best : Meaning → Leg → List ℕ → Type 0
-Best m g os = (length os ≤ g .bound) × Distance m (length os) (g .start) (g .target) × Earliest m (length os) (g .start) (g .target) os
+-- each answer of a search, and exactly when it is given, by when the records suffice and when they do not, and by what
+-- is right to answer
+pub record Answers {A : Type 0} (m : Meaning) (ask : Leg → ℕ → Result (Counted A) Refusal) (Roomy Crowded : Leg → ℕ → Type 0) (Right : Leg → Counted A → Type 0) : Type 0 where
+  pub no-such-setting : (g : Leg) (records : ℕ) → (ask g records ≡ Err NoSuchSetting) ↔ ((m .settings ≤ g .start) ⊎ (m .settings ≤ g .target))
+  pub bound : (g : Leg) (records : ℕ) → (ask g records ≡ Err Bound) ↔ ((g .start < m .settings) × (g .target < m .settings) × (255 < g .bound))
+  pub overfull : (g : Leg) (records : ℕ) → (ask g records ≡ Err Overfull) ↔ (In-range m g × Crowded g records)
+  pub out-of-reach : (g : Leg) (records : ℕ) → (ask g records ≡ Err OutOfReach) ↔ (In-range m g × Roomy g records × Unreached m g)
+  pub accepted : (g : Leg) (records : ℕ) (a : Counted A) → (ask g records ≡ Ok a) ↔ (In-range m g × Roomy g records × Right g a)
+
+-- a measure answers the least length of a list, if that is within the bound, and what its leg expands
+abbrev pub Measures : Meaning → Type 0
+Measures m =
+    Answers m (measured m) (λ g records. need m g ≤ records) (λ g records. records < need m g)
+    (λ g a. ((a .found ≤ g .bound) × Distance m (a .found) (g .start) (g .target)) × (expanded m g ≡ a .count))
+
+-- a plan answers the earliest list of the least length, if that is within the bound, and what its legs expand
+abbrev pub Plans : Meaning → Type 0
+Plans m =
+    Answers m (planned m)
+    (λ g records. (l : Leg) → In l (plan-legs m g) → need m l ≤ records)
+    (λ g records. (l : Leg) × In l (plan-legs m g) × (records < need m l))
+    (λ g a.
+        ((length (a .found) ≤ g .bound) × Distance m (length (a .found)) (g .start) (g .target) × Earliest m (length (a .found)) (g .start) (g .target) (a .found))
+        × (count m (plan-legs m g) ≡ a .count))
 
 pub record Plan-laws (m : Meaning) : Type 0 where
   pub finds : Finds m
@@ -64,12 +88,8 @@ pub record Plan-laws (m : Meaning) : Type 0 where
   pub relays-halfway : Relays m
   pub fetches : Fetches m
   pub halves : Halves m
-  -- each answer, and exactly when it is given
-  pub no-such-setting : (g : Leg) (records : ℕ) → (planned m g records ≡ Err NoSuchSetting) ↔ ((m .settings ≤ g .start) ⊎ (m .settings ≤ g .target))
-  pub bound : (g : Leg) (records : ℕ) → (planned m g records ≡ Err Bound) ↔ ((g .start < m .settings) × (g .target < m .settings) × (255 < g .bound))
-  pub overfull : (g : Leg) (records : ℕ) → (planned m g records ≡ Err Overfull) ↔ (In-range m g × ((l : Leg) × In l (plan-legs m g) × (records < need m l)))
-  pub out-of-reach : (g : Leg) (records : ℕ) → (planned m g records ≡ Err OutOfReach) ↔ (In-range m g × Roomy m g records × ((k : ℕ) → k ≤ g .bound → Linked m k (g .start) (g .target) → ⊥))
-  pub accepted : (g : Leg) (records : ℕ) (p : Plan) → (planned m g records ≡ Ok p) ↔ (In-range m g × Roomy m g records × Best m g (p .list) × (p .count ≡ count m (plan-legs m g)))
+  pub measures : Measures m
+  pub plans : Plans m
 
 -- every lawful plant has them
 abbrev pub Plans-lawful : Type 0

@@ -7,13 +7,12 @@ use lib.ListN.{take}
 use Rattle.std.specs.declared.option.Option.{Option}
 use Rattle.std.specs.declared.option.Option.the-variants.{Some, None}
 use Rattle.std.specs.declared.result.Result.{Result}
-use Rattle.std.specs.declared.result.Result.the-variants.{Ok, Err}
 use Rattle.plant.specs.Meaning.{Meaning}
 use Rattle.plant.specs.declared.refusal.Refusal.{Refusal}
-use Rattle.plant.specs.declared.refusal.Refusal.the-variants.{NoSuchSetting, Bound, Overfull, OutOfReach}
 use Rattle.legs.specs.Layers.{Leg}
 use Rattle.legs.specs.Legs.{leg-length, expanded, need}
 use Rattle.legs.specs.Lists.{earliest, after}
+use Rattle.legs.specs.Answers.{Counted, answer, outside, too-high}
 
 -- the setting after h operations of the list
 abbrev pub part-way : Meaning → ℕ → ℕ → Option (List ℕ) → ℕ
@@ -69,23 +68,11 @@ listed m s t (Some n) = earliest m n s t
 abbrev pub plan-list : Meaning → Leg → Option (List ℕ)
 plan-list m g = listed m (g .start) (g .target) (leg-length m g)
 
-pub record Plan : Type 0 where
-  pub list : List ℕ
-  pub count : ℕ
-
--- the first refusal that is due, else the list with its count
-abbrev pub answer : Bool → Bool → Bool → Option (List ℕ) → ℕ → Result Plan Refusal
-answer true high full os n = Err NoSuchSetting
-answer false true full os n = Err Bound
-answer false false true os n = Err Overfull
-answer false false false None n = Err OutOfReach
-answer false false false (Some os) n = Ok (record { list = os; count = n })
-
--- the answer of a plan with that many records
-abbrev pub planned : Meaning → Leg → ℕ → Result Plan Refusal
+-- the answer of a plan with that many records: its list
+abbrev pub planned : Meaning → Leg → ℕ → Result (Counted (List ℕ)) Refusal
 planned m g records =
     let legs = plan-legs m g in
     let full = ltb records (most-need m legs) in
     let list = plan-list m g in
     let number = count m legs in
-    answer (leb (m .settings) (g .start) || leb (m .settings) (g .target)) (ltb 255 (g .bound)) full list number
+    answer (outside m g) (too-high g) full list number
