@@ -50,10 +50,7 @@ module _ (m : Meaning) (d v : ℕ) where
 module _ (m : Meaning) where
   pub step-below : Lawful m → (v o u : ℕ) → Steps m v o u → o < m .operations
   step-below lawful v o u s =
-      ⊎-elim (λ l. l) (λ p. absurd (none-some (sym (lawful .operation-past v o p) ∙ s))) (cases-lt o (m .operations))
-    where
-      none-some : {A : Type 0} {a : A} → None ≡ Some a → ⊥
-      none-some e = let z : _≡_ {A = ℕ} 0 1 = cc in omega arith
+      ⊎-elim (λ l. l) (λ p. let none = lawful .operation-past v o p in grind arith) (cases-lt o (m .operations))
 
 -- the settings one step from those of a list
 module _ (m : Meaning) (d : ℕ) where

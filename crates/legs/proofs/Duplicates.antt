@@ -1,31 +1,26 @@
 -- A store that keeps the layer before, the present one and the next as far as it is filled finds every duplicate. Over any lawful meaning.
 use mathlib.Core.Path.{_≡_, refl, sym, ap, ap₂, subst, _∙_}
-use mathlib.Core.Bool.{Bool, true, false, _||_}
+use mathlib.Core.Bool.{true, _||_, or-assoc}
 use mathlib.Core.Logic.{⊎-elim}
 use mathlib.Core.List.{List, _++_, map}
 use Prim.Native.Nat.{ℕ, zero, suc}
 use native.Mathlib.Omega.{arith}
 use Rattle.std.proofs.shelf.Lists.{map-append}
+use Rattle.std.proofs.shelf.Ways.{same-from-decides}
 use Rattle.std.proofs.shelf.Tests.{or-cases, or-left, or-right}
 use Rattle.plant.specs.Meaning.{Meaning, Steps}
 use Rattle.plant.specs.Laws.{Lawful}
 use Rattle.legs.specs.Kinds.{Kind, plain, Tells}
 use Rattle.legs.specs.Layers.{Leg, has, grown, layer, settings, layer-before, In}
 use Rattle.legs.specs.Laws.{Holds, Beside}
-use Rattle.legs.proofs.Members.{has-append, or-assoc}
+use Rattle.legs.proofs.Members.{has-append}
 use Rattle.legs.proofs.Tells.{layer-settings, met-settings, in-layer}
 use Rattle.legs.proofs.Layers.{met-by, met-layer, layer-met, near}
-
--- two tests are equal where each follows from the other
-same-test : (x y : Bool) → (x ≡ true → y ≡ true) → (y ≡ true → x ≡ true) → x ≡ y
-same-test true y f b = sym (f refl)
-same-test false true f b = b refl
-same-test false false f b = refl
 
 module _ (m : Meaning) (g : Leg) (lawful : Lawful m) where
   -- what is one step from layer d is met exactly where that layer or the one before holds it
   pub met-near : (d u : ℕ) → Beside m g d u → met-by m g d u ≡ (has (layer-before m plain g d) u || has (settings m g d) u)
-  met-near d u b = same-test _ _ (forth d b) (back d)
+  met-near d u b = same-from-decides _ _ (forth d b, back d) (λ e. e, λ e. e)
     where
       forth : (d : ℕ) → Beside m g d u → met-by m g d u ≡ true → (has (layer-before m plain g d) u || has (settings m g d) u) ≡ true
       forth zero b t = let r = met-layer m g zero u t in let e : r .0 ≡ zero = omega (arith, r .1) in subst (λ i. Holds m g i u) e (r .2)

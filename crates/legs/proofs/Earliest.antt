@@ -19,7 +19,7 @@ use Rattle.legs.proofs.Lists.{steps-once}
 use Rattle.legs.proofs.Earlier.{earlier-one-way}
 
 pub some-none : {A : Type 0} (x : Option A) (a : A) → x ≡ Some a → x ≡ None → ⊥
-some-none x a s n = let z : _≡_ {A = ℕ} 0 1 = cc in omega arith
+some-none x a s n = grind arith
 
 module _ {A : Type 0} (f : ℕ → Option A) where
   hit-none : (n : ℕ) → first-hit f n ≡ None → (o : ℕ) → o < n → f o ≡ None

@@ -46,6 +46,19 @@ module _ (m : Meaning) (g : Leg) where
   pub before-end : (i : ℕ) → i < end m g → ends m g i ≡ false
   before-end i l = the-end .3 i (omega arith) l
 
+  pub end-ends : ends m g (end m g) ≡ true
+  end-ends = the-end .2
+
+  -- the end is the first depth at which the leg ends
+  pub end-is : (d : ℕ) → ends m g d ≡ true → ((i : ℕ) → i < d → ends m g i ≡ false) → end m g ≡ d
+  end-is d t before =
+      ⊎-elim (λ e. e)
+      (⊎-elim (λ b. absurd (both-ways (ends m g (end m g)) (before (end m g) b) end-ends)) (λ b. absurd (both-ways (ends m g d) (before-end d b) t)))
+      (cases-order (end m g) d)
+
+  pub below-end : (d : ℕ) → ((i : ℕ) → i ≤ d → ends m g i ≡ false) → d < end m g
+  below-end d before = ⊎-elim (λ b. b) (λ b. absurd (both-ways (ends m g (end m g)) (before (end m g) b) end-ends)) (cases-lt d (end m g))
+
   -- the layer that holds the target is the last
   pub end-holding : (j : ℕ) → j ≤ g .bound → Holds m g j (g .target) → end m g ≡ j
   end-holding j l h = ⊎-elim (λ e. e) (⊎-elim (λ b. absurd (early b)) (λ b. absurd (late b))) (cases-order (end m g) j)
@@ -58,7 +71,7 @@ module _ (m : Meaning) (g : Leg) where
           ⊎-elim
           (λ (t : Holds m g (end m g) (g .target)). omega (arith, apart m g (end m g) j (g .target) t h))
           (λ t. ⊎-elim (λ n. none-behind m g (end m g) j (g .target) n (omega arith) h) (λ n. omega (arith, eqb-true (end m g) (g .bound) n)) (or-cases _ _ t))
-          (or-cases _ _ (the-end .2))
+          (or-cases _ _ end-ends)
 
   pub length-holding : (j : ℕ) → j ≤ g .bound → Holds m g j (g .target) → leg-length m g ≡ Some j
   length-holding j l h =

@@ -9,7 +9,7 @@ use lib.Dec.{leb}
 use lib.ListN.{length, take, drop}
 use Rattle.std.specs.declared.option.Option.the-variants.{Some}
 use Rattle.std.proofs.shelf.Lists.{take-append-drop, nil-from-length}
-use Rattle.std.proofs.shelf.Tests.{le-leb, leb-true, cases-lt, cases-order}
+use Rattle.std.proofs.shelf.Tests.{le-leb, leb-true, cases-lt, cases-order, false≢true}
 use Rattle.plant.specs.Meaning.{Meaning, Steps, Leads}
 use Rattle.plant.specs.Laws.{Lawful}
 use Rattle.legs.specs.Layers.{Leg, In}
@@ -26,7 +26,7 @@ use Rattle.legs.proofs.Earliest.{earliest-found, linked-found, earliest-unique
 use Rattle.legs.proofs.Parts.{after-leads, parts}
 
 module _ (m : Meaning) where
-  halved-more :
+  pub halved-more :
       (f n s t : ℕ) → 2 ≤ n
       → halved m (suc f) n s t ≡ fetch-leg n s t ∷ (halved m f (n / 2) s (halfway m n s t) ++ halved m f (n - n / 2) (halfway m n s t) t)
   halved-more f n s t two = split (leb 2 n) (le-leb 2 n two)
@@ -36,9 +36,9 @@ module _ (m : Meaning) where
 
       split : (b : Bool) → b ≡ true → elim b [ true ↦ legs | false ↦ [] ] ≡ legs
       split true e = refl
-      split false e = absurd (mathlib.Core.Bool.false≢true e)
+      split false e = absurd (false≢true e)
 
-  halved-none : (f n s t : ℕ) → n < 2 → halved m f n s t ≡ []
+  pub halved-none : (f n s t : ℕ) → n < 2 → halved m f n s t ≡ []
   halved-none zero n s t l = refl
   halved-none (suc f) n s t l = split (leb 2 n) refl
     where

@@ -1,20 +1,19 @@
 -- How the next layer is filled: the turns of a loop over a layer, and that what is filled is a front part of the layer. Over any lawful meaning.
-use mathlib.Core.Path.{_≡_, refl, sym, ap, ap₂, subst, _∙_}
-use mathlib.Core.Bool.{Bool, not, _||_, cond}
-use mathlib.Core.Logic.{_⊎_, inl, inr, ⊎-elim}
+use mathlib.Core.Path.{_≡_, sym, ap, _∙_}
+use mathlib.Core.Bool.{not, _||_, cond, or-assoc}
+use mathlib.Core.Logic.{⊎-elim}
 use mathlib.Core.List.{List, [], _∷_, _++_, map}
-use Prim.Native.Nat.{ℕ, zero, suc, _≤_, _<_}
+use Prim.Native.Nat.{ℕ, zero, suc, _≤_}
 use native.Mathlib.Omega.{arith}
 use lib.ListN.{length}
-use Rattle.std.specs.declared.option.Option.the-variants.{Some, None}
+use Rattle.std.specs.declared.option.Option.the-variants.{None}
 use Rattle.std.proofs.shelf.Lists.{append-nil, append-assoc, length-append}
-use Rattle.std.proofs.shelf.Tests.{cases-lt, cond-true, cond-false}
+use Rattle.std.proofs.shelf.Tests.{cases-lt}
 use Rattle.plant.specs.Meaning.{Meaning, Steps}
 use Rattle.plant.specs.Laws.{Lawful}
 use Rattle.legs.specs.Kinds.{Kind, Tells}
-use Rattle.legs.specs.Layers.{Leg, has, In, fits, arrival, reached, arrivals, kept, grown, layer, layer-before}
+use Rattle.legs.specs.Layers.{Leg, has, In, fits, arrival, reached, arrivals, grown, layer, layer-before}
 use Rattle.legs.specs.Filling.{kept-next, filled, filled-more}
-use Rattle.legs.proofs.Members.{or-assoc}
 use Rattle.legs.proofs.Arrivals.{arrivals-append, arrivals-push}
 use Rattle.legs.proofs.Kept.{refused, kept-push, kept-front}
 use Rattle.legs.proofs.Duplicates.{three-layers-joined}
@@ -55,9 +54,9 @@ module _ {R : Type 0} (m : Meaning) (k : Kind R) (g : Leg) (d : ℕ) where
         ∙ ap (λ x. kept-next m k g d (before ++ arrival k (suc d) r x)) s
         ∙ kept-push k (fits m g (suc d)) (grown m k g d .met) before new
         ∙ ap (λ b. nexts ++ cond b [] (new ∷ []))
-            (ap (refused k (fits m g (suc d)) (grown m k g d .met) nexts) (t .arrives (suc d) r u)
-            ∙ sym (or-assoc (has (grown m k g d .met) u) (has (map (k .setting) nexts) u) (not (fits m g (suc d) u)))
-            ∙ ap (λ b. b || not (fits m g (suc d) u)) (sym (three-layers-joined m g lawful k t d r o u nexts i s)))
+        (ap (refused k (fits m g (suc d)) (grown m k g d .met) nexts) (t .arrives (suc d) r u)
+        ∙ sym (or-assoc (has (grown m k g d .met) u) (has (map (k .setting) nexts) u) (not (fits m g (suc d) u)))
+        ∙ ap (λ b. b || not (fits m g (suc d) u)) (sym (three-layers-joined m g lawful k t d r o u nexts i s)))
 
   -- what is filled is a front part of the next layer
   reached-front : (r : R) (o n : ℕ) → o ≤ n → (qs : List R) × (reached m k (suc d) r o ++ qs ≡ reached m k (suc d) r n)
@@ -65,9 +64,10 @@ module _ {R : Type 0} (m : Meaning) (k : Kind R) (g : Leg) (d : ℕ) where
   reached-front r o (suc n) l =
       ⊎-elim
       (λ b.
-          let q = reached-front r o n (omega arith) in
-          ( q .0 ++ arrival k (suc d) r (m .step (k .setting r) n)
-          , sym (append-assoc (reached m k (suc d) r o) (q .0) (arrival k (suc d) r (m .step (k .setting r) n))) ∙ ap (λ x. x ++ arrival k (suc d) r (m .step (k .setting r) n)) (q .1) ))
+      let q = reached-front r o n (omega arith) in (
+        q .0 ++ arrival k (suc d) r (m .step (k .setting r) n),
+        sym (append-assoc (reached m k (suc d) r o) (q .0) (arrival k (suc d) r (m .step (k .setting r) n))) ∙ ap (λ x. x ++ arrival k (suc d) r (m .step (k .setting r) n)) (q .1),
+      ))
       (λ b. let e : o ≡ suc n = omega arith in ([], append-nil (reached m k (suc d) r o) ∙ ap (reached m k (suc d) r) e))
       (cases-lt o (suc n))
 
@@ -79,9 +79,9 @@ module _ {R : Type 0} (m : Meaning) (k : Kind R) (g : Leg) (d : ℕ) where
       let before = arrivals m k (suc d) rs ++ reached m k (suc d) r o in
       let behind = q .0 ++ arrivals m k (suc d) rest in
       let all : before ++ behind ≡ arrivals m k (suc d) (layer m k g d) =
-          append-assoc (arrivals m k (suc d) rs) (reached m k (suc d) r o) behind
-          ∙ ap (λ x. arrivals m k (suc d) rs ++ x) (sym (append-assoc (reached m k (suc d) r o) (q .0) (arrivals m k (suc d) rest)) ∙ ap (λ x. x ++ arrivals m k (suc d) rest) (q .1))
-          ∙ sym (arrivals-append m k (suc d) rs (r ∷ rest)) ∙ ap (arrivals m k (suc d)) e in
+      append-assoc (arrivals m k (suc d) rs) (reached m k (suc d) r o) behind
+      ∙ ap (λ x. arrivals m k (suc d) rs ++ x) (sym (append-assoc (reached m k (suc d) r o) (q .0) (arrivals m k (suc d) rest)) ∙ ap (λ x. x ++ arrivals m k (suc d) rest) (q .1))
+      ∙ sym (arrivals-append m k (suc d) rs (r ∷ rest)) ∙ ap (arrivals m k (suc d)) e in
       let f = kept-front k (fits m g (suc d)) (grown m k g d .met) before behind in
       (f .0, f .1 ∙ ap (kept-next m k g d) all)
 

@@ -1,6 +1,6 @@
 -- Which arrivals are kept, how the kept grow by one, and that a map between kinds keeps the same ones. Assumes nothing.
 use mathlib.Core.Path.{_≡_, refl, sym, ap, subst, _∙_}
-use mathlib.Core.Bool.{Bool, true, false, not, _&&_, _||_, cond}
+use mathlib.Core.Bool.{Bool, true, false, not, _&&_, _||_, cond, and-false}
 use mathlib.Core.Logic.{inl, inr, ⊎-elim}
 use mathlib.Core.List.{List, [], _∷_, _++_, map}
 use Prim.Native.Nat.{ℕ}
@@ -18,10 +18,6 @@ kept-at-head false false v rest h = h
 kept-past-head : (b : Bool) (v u : ℕ) (rest : List ℕ) → eqb v u ≡ false → has (cond b rest (v ∷ rest)) u ≡ has rest u
 kept-past-head true v u rest e = refl
 kept-past-head false v u rest e = ap (λ x. x || has rest u) e
-
-and-false : (x : Bool) → (x && false) ≡ false
-and-false true = refl
-and-false false = refl
 
 pub has-kept : (fit : ℕ → Bool) (met us : List ℕ) (u : ℕ) → has (kept plain fit met us) u ≡ (has us u && (not (has met u) && fit u))
 has-kept fit met [] u = refl

@@ -22,3 +22,5 @@ pub mod Answers
 pub mod Plans
 pub mod PlanLaws
 pub mod Filling
+pub mod Need
+pub mod Counts

@@ -1,11 +1,13 @@
 -- What `has` tells of a list made of others, and membership of records by recursion. Assumes nothing.
 use mathlib.Core.Path.{_≡_, refl, sym, ap, _∙_}
-use mathlib.Core.Bool.{Bool, true, false, _||_}
+use mathlib.Core.Bool.{true, _||_, or-assoc}
 use mathlib.Core.Logic.{_⊎_, inl, inr, ⊎-elim}
 use mathlib.Core.List.{List, [], _∷_, _++_, map}
-use Prim.Native.Nat.{ℕ}
+use Prim.Native.Nat.{ℕ, zero, suc, _<_}
+use native.Mathlib.Omega.{arith}
 use lib.Dec.{eqb}
-use Rattle.std.proofs.shelf.Tests.{eq-eqb, eqb-true, or-cases, or-left, or-right}
+use lib.ListN.{length, getD}
+use Rattle.std.proofs.shelf.Tests.{eq-eqb, eqb-true, or-cases, or-left, or-right, false≢true}
 use Rattle.legs.specs.Layers.{has, In}
 
 pub has-here : (v u : ℕ) (vs : List ℕ) → v ≡ u → has (v ∷ vs) u ≡ true
@@ -16,10 +18,6 @@ has-later v u vs h = or-right (eqb v u) _ h
 
 pub has-cases : (v u : ℕ) (vs : List ℕ) → has (v ∷ vs) u ≡ true → (v ≡ u) ⊎ (has vs u ≡ true)
 has-cases v u vs h = ⊎-elim (λ e. inl (eqb-true v u e)) (λ e. inr e) (or-cases (eqb v u) (has vs u) h)
-
-pub or-assoc : (x y z : Bool) → (x || y || z) ≡ (x || (y || z))
-or-assoc true y z = refl
-or-assoc false y z = refl
 
 pub has-append : (us vs : List ℕ) (u : ℕ) → has (us ++ vs) u ≡ (has us u || has vs u)
 has-append [] vs u = refl
@@ -40,9 +38,20 @@ module _ {X : Type 0} where
   in-append-cases x (z ∷ xs) ys (inl e) = inl (inl e)
   in-append-cases x (z ∷ xs) ys (inr i) = ⊎-elim (λ l. inl (inr l)) (λ r. inr r) (in-append-cases x xs ys i)
 
+  -- what stands at a place stands in the list, and the other way round
+  pub in-getD : (xs : List X) (i : ℕ) (d : X) → i < length xs → In (getD xs i d) xs
+  in-getD [] i d l = absurd (omega arith)
+  in-getD (x ∷ xs) zero d l = inl refl
+  in-getD (x ∷ xs) (suc i) d l = inr (in-getD xs i d (omega arith))
+
+  pub in-place : (x : X) (xs : List X) → In x xs → (i : ℕ) × (i < length xs) × ((d : X) → getD xs i d ≡ x)
+  in-place x [] i = absurd i
+  in-place x (y ∷ xs) (inl e) = (zero, omega arith, λ d. e)
+  in-place x (y ∷ xs) (inr i) = let r = in-place x xs i in (suc (r .0), omega (arith, r .1), r .2)
+
   -- a setting told by the records is told by one of them, and the other way round
   pub has-told : (f : X → ℕ) (xs : List X) (u : ℕ) → has (map f xs) u ≡ true → (x : X) × In x xs × (f x ≡ u)
-  has-told f [] u h = absurd (mathlib.Core.Bool.false≢true h)
+  has-told f [] u h = absurd (false≢true h)
   has-told f (x ∷ xs) u h =
       ⊎-elim (λ e. (x, inl refl, e)) (λ l. let r = has-told f xs u l in (r .0, inr (r .1), r .2)) (has-cases (f x) u (map f xs) h)
 

@@ -15,5 +15,5 @@ plans-lawful m lawful =
       fetches = fetches m lawful;
       halves = halves m;
       measures = measures m lawful;
-      plans = plans m lawful
+      plans = plans m lawful;
     }

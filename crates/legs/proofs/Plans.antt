@@ -1,6 +1,6 @@
 -- When a measure and a plan give each of their answers. Over any lawful meaning.
 use mathlib.Core.Path.{_≡_, refl, sym, ap, subst, _∙_}
-use mathlib.Core.Logic.{_↔_, _⊎_, inl, inr, ⊎-elim}
+use mathlib.Core.Logic.{_↔_, inl, inr, ⊎-elim}
 use mathlib.Core.List.{List, [], _∷_}
 use Prim.Native.Nat.{ℕ, _≤_, _<_}
 use native.Mathlib.Omega.{arith}
@@ -28,15 +28,17 @@ module _ (m : Meaning) where
       some-needs [] h = absurd (omega arith)
       some-needs (g ∷ gs) h =
           ⊎-elim (λ b. (g, inl refl, b)) (λ b. let r = some-needs gs (omega arith) in (r .0, inr (r .1), r .2)) (cases-lt records (need m g))
+
       all-need : (gs : List Leg) (l : Leg) → In l gs → need m l ≤ most-need m gs
       all-need [] l i = absurd i
       all-need (g ∷ gs) l (inl e) = subst (λ x. need m x ≤ most-need m (g ∷ gs)) e (omega arith)
       all-need (g ∷ gs) l (inr i) = omega (arith, all-need gs l i)
 
   pub most-enough : (records : ℕ) (gs : List Leg) → (most-need m gs ≤ records) ↔ ((l : Leg) → In l gs → need m l ≤ records)
-  most-enough records gs =
-      ( λ h l i. ⊎-elim (λ b. absurd (omega (arith, most-needed records gs .1 (l, i, b)))) (λ b. b) (cases-lt records (need m l))
-      , λ h. ⊎-elim (λ b. absurd (let x = most-needed records gs .0 b in omega (arith, x .2, h (x .0) (x .1)))) (λ b. b) (cases-lt records (most-need m gs)) )
+  most-enough records gs = (
+    λ h l i. ⊎-elim (λ b. absurd (omega (arith, most-needed records gs .1 (l, i, b)))) (λ b. b) (cases-lt records (need m l)),
+    λ h. ⊎-elim (λ b. absurd (let x = most-needed records gs .0 b in omega (arith, x .2, h (x .0) (x .1)))) (λ b. b) (cases-lt records (most-need m gs)),
+  )
 
   module _ (lawful : Lawful m) where
     list-none : (g : Leg) → (plan-list m g ≡ None) ↔ Unreached m g
@@ -61,6 +63,7 @@ module _ (m : Meaning) where
             let l = least m g lawful n .0 x in
             let first = found-earliest m lawful n (g .start) (g .target) os e in
             subst (λ k. (k ≤ g .bound) × Distance m k (g .start) (g .target) × Earliest m k (g .start) (g .target) os) (sym (first .long)) (l .0, (l .1, l .2), first)
+
         back : Best g os → plan-list m g ≡ Some os
         back h =
             ap (listed m (g .start) (g .target)) (least m g lawful (length os) .1 (h .0, h .1 .0, h .1 .1))

@@ -78,8 +78,8 @@ Plans m =
     (λ g records. (l : Leg) → In l (plan-legs m g) → need m l ≤ records)
     (λ g records. (l : Leg) × In l (plan-legs m g) × (records < need m l))
     (λ g a.
-        ((length (a .found) ≤ g .bound) × Distance m (length (a .found)) (g .start) (g .target) × Earliest m (length (a .found)) (g .start) (g .target) (a .found))
-        × (count m (plan-legs m g) ≡ a .count))
+    ((length (a .found) ≤ g .bound) × Distance m (length (a .found)) (g .start) (g .target) × Earliest m (length (a .found)) (g .start) (g .target) (a .found))
+    × (count m (plan-legs m g) ≡ a .count))
 
 pub record Plan-laws (m : Meaning) : Type 0 where
   pub finds : Finds m

@@ -1,5 +1,5 @@
 -- The legs that a plan takes, what they expand and need, and the plan's answer. Assumes nothing.
-use mathlib.Core.Bool.{Bool, true, false, _||_}
+use mathlib.Core.Bool.{true, false}
 use mathlib.Core.List.{List, [], _∷_, _++_}
 use Prim.Native.Nat.{ℕ, zero, suc, _+_, _-_, _/_, max}
 use lib.Dec.{leb, ltb}
