@@ -87,10 +87,16 @@ module _ {A : Type 0} (m : Meaning) (most : Leg → ℕ) (find : Leg → Option 
   abbrev asked : Leg → ℕ → Result (Counted A) Refusal
   asked g records = answer (outside m g) (too-high g) (ltb records (most g)) (find g) (number g)
 
-  looked : (g : Leg) (records : ℕ) (r : Result (Counted A) Refusal) → asked g records ≡ r → Says (outside m g) (too-high g) (ltb records (most g)) (find g) (number g) r
-  looked g records r e = subst (Says (outside m g) (too-high g) (ltb records (most g)) (find g) (number g)) e (says (outside m g) (too-high g) (ltb records (most g)) (find g) (number g))
+  looked :
+      (g : Leg) (records : ℕ) (r : Result (Counted A) Refusal) → asked g records ≡ r
+      → Says (outside m g) (too-high g) (ltb records (most g)) (find g) (number g) r
+  looked g records r e =
+      subst (Says (outside m g) (too-high g) (ltb records (most g)) (find g) (number g)) e
+      (says (outside m g) (too-high g) (ltb records (most g)) (find g) (number g))
 
-  gives : (g : Leg) (records : ℕ) (r : Result (Counted A) Refusal) → Says (outside m g) (too-high g) (ltb records (most g)) (find g) (number g) r → asked g records ≡ r
+  gives :
+      (g : Leg) (records : ℕ) (r : Result (Counted A) Refusal)
+      → Says (outside m g) (too-high g) (ltb records (most g)) (find g) (number g) r → asked g records ≡ r
   gives g records r h = said (outside m g) (too-high g) (ltb records (most g)) (find g) (number g) r h
 
   pub answers : Answers m (λ g records. asked g records) Roomy Crowded (λ g a. Right g (a .found) × (number g ≡ a .count))

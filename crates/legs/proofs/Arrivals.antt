@@ -18,7 +18,9 @@ use Rattle.legs.proofs.Members.{has-here, has-later, has-cases, has-append}
 module _ {R : Type 0} (m : Meaning) (k : Kind R) (d : ℕ) where
   pub arrivals-append : (qs rs : List R) → arrivals m k d (qs ++ rs) ≡ arrivals m k d qs ++ arrivals m k d rs
   arrivals-append [] rs = refl
-  arrivals-append (q ∷ qs) rs = ap (λ l. reached m k d q (m .operations) ++ l) (arrivals-append qs rs) ∙ sym (append-assoc (reached m k d q (m .operations)) (arrivals m k d qs) (arrivals m k d rs))
+  arrivals-append (q ∷ qs) rs =
+      ap (λ l. reached m k d q (m .operations) ++ l) (arrivals-append qs rs)
+      ∙ sym (append-assoc (reached m k d q (m .operations)) (arrivals m k d qs) (arrivals m k d rs))
 
   -- one record more
   pub arrivals-push : (rs : List R) (r : R) → arrivals m k d (rs ++ r ∷ []) ≡ arrivals m k d rs ++ reached m k d r (m .operations)

@@ -60,6 +60,10 @@ begun-none rest o u t s e = split (rest u) refl (ap (λ x. begun-by o (from-ther
     split None x n = x
     split (Some qs) x n = absurd (some-none (Some (o ∷ qs)) (o ∷ qs) refl n)
 
+-- what is found of a list begun by o
+abbrev led-by : Meaning → ℕ → ℕ → ℕ → ℕ → Option (List ℕ)
+led-by m n s t o = begun-by o (from-there (λ u. earliest m n u t) (m .step s o))
+
 module _ (m : Meaning) (lawful : Lawful m) where
   none-leads : (n s t : ℕ) (ps : List ℕ) → earliest m n s t ≡ None → length ps ≡ n → Leads m s ps t → ⊥
   none-leads zero s t [] e l h = split (eqb s t) refl e
@@ -70,9 +74,8 @@ module _ (m : Meaning) (lawful : Lawful m) where
   none-leads zero s t (p ∷ ps) e l h = omega arith
   none-leads (suc n) s t [] e l h = omega arith
   none-leads (suc n) s t (p ∷ ps) e l h =
-      none-leads n (h .0) t ps
-      (begun-none (λ u. earliest m n u t) p (h .0) (m .step s p) (h .1) (hit-none (λ o. begun-by o (from-there (λ u. earliest m n u t) (m .step s o))) (m .operations) e p (step-below m lawful s p (h .0) (h .1))))
-      (omega arith) (h .2)
+      let missed = hit-none (led-by m n s t) (m .operations) e p (step-below m lawful s p (h .0) (h .1)) in
+      none-leads n (h .0) t ps (begun-none (λ u. earliest m n u t) p (h .0) (m .step s p) (h .1) missed) (omega arith) (h .2)
 
   pub found-earliest : (n s t : ℕ) (os : List ℕ) → earliest m n s t ≡ Some os → Earliest m n s t os
   found-earliest zero s t os e = split (eqb s t) refl e
@@ -83,12 +86,12 @@ module _ (m : Meaning) (lawful : Lawful m) where
           subst (Earliest m zero s t) at (record { leads = eqb-true s t x; long = refl; before-all = λ ps l n. inl (sym (nil-from-length ps l)) })
       split false x h = absurd (some-none (Some os) os refl (sym h))
   found-earliest (suc n) s t os e =
-      let r = hit-first (λ o. begun-by o (from-there (λ u. earliest m n u t) (m .step s o))) (m .operations) os e in
+      let r = hit-first (led-by m n s t) (m .operations) os e in
       let q = begun-some (λ u. earliest m n u t) (r .0) (m .step s (r .0)) os (r .2) in
       from (r .0) (q .0) (q .1) (q .2) (q .4) (r .3) (found-earliest n (q .0) t (q .1) (q .3))
     where
       from :
-          (o u : ℕ) (qs : List ℕ) → Steps m s o u → o ∷ qs ≡ os → ((p : ℕ) → p < o → begun-by p (from-there (λ v. earliest m n v t) (m .step s p)) ≡ None)
+          (o u : ℕ) (qs : List ℕ) → Steps m s o u → o ∷ qs ≡ os → ((p : ℕ) → p < o → led-by m n s t p ≡ None)
           → Earliest m n u t qs → Earliest m (suc n) s t os
       from o u qs h at low rest =
           subst (Earliest m (suc n) s t) at (record { leads = (u, h, rest .leads); long = ap suc (rest .long); before-all = before })

@@ -22,7 +22,7 @@ use Rattle.legs.proofs.Members.{in-append-cases, map-in}
 use Rattle.legs.proofs.Ends.{least}
 use Rattle.legs.proofs.Ways.{ways, ways-at}
 use Rattle.legs.proofs.Relay.{relays-tell, way-earliest, relay-part-way}
-use Rattle.legs.proofs.Earliest.{earliest-found, linked-found, earliest-unique, found-earliest}
+use Rattle.legs.proofs.Earliest.{earliest-found, linked-found}
 use Rattle.legs.proofs.Parts.{after-leads, parts}
 
 module _ (m : Meaning) where
@@ -83,24 +83,42 @@ module _ (m : Meaning) where
     pub fetch-length : (n s t : ℕ) → Distance m n s t → leg-length m (fetch-leg n s t) ≡ Some n
     fetch-length n s t d = least m (fetch-leg n s t) lawful n .1 (omega arith, d .0, d .1)
 
-    -- half way lie the ends of two fetches of the least length, whose lists joined are the list
-    pub half-fetches :
+    half-parts :
         (n s t : ℕ) → Distance m n s t
-        → Distance m (n / 2) s (halfway m n s t) × Distance m (n - n / 2) (halfway m n s t) t
-        × ((os ps : List ℕ) → earliest m (n / 2) s (halfway m n s t) ≡ Some os → earliest m (n - n / 2) (halfway m n s t) t ≡ Some ps → earliest m n s t ≡ Some (os ++ ps))
-    half-fetches n s t d =
+        → (os : List ℕ) × (earliest m n s t ≡ Some os)
+        × Distance m (n / 2) s (halfway m n s t) × Earliest m (n / 2) s (halfway m n s t) (take (n / 2) os)
+        × Distance m (n - n / 2) (halfway m n s t) t × Earliest m (n - n / 2) (halfway m n s t) t (drop (n / 2) os)
+    half-parts n s t d =
         let f = linked-found m lawful n s t (d .0) in
-        let at = halfway-after n s t (f .0) (f .1) in
-        let p = parts m n s t (f .0) (n / 2) d (f .2) (omega arith) in (
+        let p = parts m n s t (f .0) (n / 2) d (f .2) (omega arith) in
+        let at = halfway-after n s t (f .0) (f .1) in (
+          f .0,
+          f .1,
           subst (Distance m (n / 2) s) at (p .0),
+          subst (λ r. Earliest m (n / 2) s r (take (n / 2) (f .0))) at (p .1),
           subst (λ r. Distance m (n - n / 2) r t) at (p .2),
-          λ os ps a b.
-              let front : take (n / 2) (f .0) ≡ os =
-              earliest-unique m lawful (n / 2) s (halfway m n s t) (take (n / 2) (f .0)) os (subst (λ r. Earliest m (n / 2) s r (take (n / 2) (f .0))) at (p .1)) (found-earliest m lawful (n / 2) s (halfway m n s t) os a) in
-              let back : drop (n / 2) (f .0) ≡ ps =
-              earliest-unique m lawful (n - n / 2) (halfway m n s t) t (drop (n / 2) (f .0)) ps (subst (λ r. Earliest m (n - n / 2) r t (drop (n / 2) (f .0))) at (p .3)) (found-earliest m lawful (n - n / 2) (halfway m n s t) t ps b) in
-              f .1 ∙ ap (λ l. Some l) (sym (take-append-drop (n / 2) (f .0)) ∙ ap₂ (λ x y. x ++ y) front back),
+          subst (λ r. Earliest m (n - n / 2) r t (drop (n / 2) (f .0))) at (p .3),
         )
+
+    -- both halves of a fetch of the least length are of the least length
+    pub first-half : (n s t : ℕ) → Distance m n s t → Distance m (n / 2) s (halfway m n s t)
+    first-half n s t d = half-parts n s t d .2
+
+    pub second-half : (n s t : ℕ) → Distance m n s t → Distance m (n - n / 2) (halfway m n s t) t
+    second-half n s t d = half-parts n s t d .4
+
+    -- and their lists joined are its list
+    pub halves-joined :
+        (n s t : ℕ) (os ps : List ℕ) → Distance m n s t
+        → earliest m (n / 2) s (halfway m n s t) ≡ Some os → earliest m (n - n / 2) (halfway m n s t) t ≡ Some ps
+        → earliest m n s t ≡ Some (os ++ ps)
+    halves-joined n s t os ps d a b =
+        let h = half-parts n s t d in
+        let first = earliest-found m lawful (n / 2) s (halfway m n s t) (take (n / 2) (h .0)) (h .3) in
+        let second = earliest-found m lawful (n - n / 2) (halfway m n s t) t (drop (n / 2) (h .0)) (h .5) in
+        let front : take (n / 2) (h .0) ≡ os = cc in
+        let back : drop (n / 2) (h .0) ≡ ps = cc in
+        h .1 ∙ ap (λ l. Some l) (sym (take-append-drop (n / 2) (h .0)) ∙ ap₂ (λ x y. x ++ y) front back)
 
     halved-length : (f n s t : ℕ) (l : Leg) → Distance m n s t → In l (halved m f n s t) → leg-length m l ≡ Some (l .bound)
     halved-length zero n s t l d i = absurd i
@@ -108,10 +126,9 @@ module _ (m : Meaning) where
         ⊎-elim
         (λ low. absurd (subst (In l) (halved-none (suc f) n s t low) i))
         (λ two.
-        let h = half-fetches n s t d in
         ⊎-elim
         (λ e. subst (λ x. leg-length m x ≡ Some (x .bound)) e (fetch-length n s t d))
-        (λ j. ⊎-elim (λ x. halved-length f (n / 2) s (halfway m n s t) l (h .0) x) (λ x. halved-length f (n - n / 2) (halfway m n s t) t l (h .1) x)
+        (λ j. ⊎-elim (λ x. halved-length f (n / 2) s (halfway m n s t) l (first-half n s t d) x) (λ x. halved-length f (n - n / 2) (halfway m n s t) t l (second-half n s t d) x)
         (in-append-cases l (halved m f (n / 2) s (halfway m n s t)) (halved m f (n - n / 2) (halfway m n s t) t) j))
         (subst (In l) (halved-more f n s t two) i))
         (cases-lt n 2)
@@ -126,7 +143,8 @@ module _ (m : Meaning) where
         let first = way-earliest m (relays n) (relays-tell n) g lawful n (omega arith) (d .1) (q .0) (q .1) (ap (λ x. x .setting) (q .2) ∙ e) in
         let found = earliest-found m lawful n s t (reverse (q .0 .ops)) first in
         let passed = relay-part-way m n g two n (q .0) (q .1) (omega arith) in
-        ap (λ x. x .relay) (sym (q .2)) ∙ sym (after-leads m (take (n / 2) (reverse (q .0 .ops))) s (q .0 .at .relay) passed) ∙ halfway-after n s t (reverse (q .0 .ops)) found
+        ap (λ x. x .relay) (sym (q .2))
+        ∙ sym (after-leads m (take (n / 2) (reverse (q .0 .ops))) s (q .0 .at .relay) passed) ∙ halfway-after n s t (reverse (q .0 .ops)) found
 
     -- a list of no operation, and of one: the lowest that steps there
     pub earliest-zero : (s : ℕ) → earliest m 0 s s ≡ Some []

@@ -10,7 +10,9 @@ use Rattle.legs.specs.Kinds.{Kind, plain}
 use Rattle.legs.specs.Layers.{has, kept, In}
 
 -- a setting is kept where it arrives, is not met and fits
-kept-at-head : (met-already fit : Bool) (v : ℕ) (rest : List ℕ) → has rest v ≡ false → has (cond (met-already || not fit) rest (v ∷ rest)) v ≡ (not met-already && fit)
+kept-at-head :
+    (met-already fit : Bool) (v : ℕ) (rest : List ℕ) → has rest v ≡ false
+    → has (cond (met-already || not fit) rest (v ∷ rest)) v ≡ (not met-already && fit)
 kept-at-head true fit v rest h = h
 kept-at-head false true v rest h = ap (λ b. b || has rest v) (eq-eqb v v refl)
 kept-at-head false false v rest h = h
@@ -37,10 +39,17 @@ has-kept fit met (v ∷ us) u =
     Goal w = has (cond (has met v || not (fit v)) rest (v ∷ rest)) w ≡ ((eqb v w || has us w) && (not (has met w) && fit w))
 
     here : Later → v ≡ u → Goal u
-    here later e = subst Goal e (kept-at-head (has met v) (fit v) v rest (itself later) ∙ ap (λ b. (b || has us v) && (not (has met v) && fit v)) (sym (eq-eqb v v refl)))
+    here later e =
+        subst Goal e
+        (kept-at-head (has met v) (fit v) v rest (itself later)
+        ∙ ap (λ b. (b || has us v) && (not (has met v) && fit v)) (sym (eq-eqb v v refl)))
 
     there : Later → eqb v u ≡ false → Goal u
-    there later e = kept-past-head (has met v || not (fit v)) v u rest e ∙ later u ∙ ap (λ b. has us u && (not (b || has met u) && fit u)) e ∙ ap (λ b. (b || has us u) && (not (has met u) && fit u)) (sym e)
+    there later e =
+        kept-past-head (has met v || not (fit v)) v u rest e
+        ∙ later u
+        ∙ ap (λ b. has us u && (not (b || has met u) && fit u)) e
+        ∙ ap (λ b. (b || has us u) && (not (has met u) && fit u)) (sym e)
 
 pub kept-parts : (fit : ℕ → Bool) (met us : List ℕ) (u : ℕ) → has (kept plain fit met us) u ≡ true → (has us u ≡ true) × (has met u ≡ false) × (fit u ≡ true)
 kept-parts fit met us u h =
@@ -49,7 +58,9 @@ kept-parts fit met us u h =
     (p .0, not-true (has met u) (q .0), q .1)
 
 pub kept-from : (fit : ℕ → Bool) (met us : List ℕ) (u : ℕ) → has us u ≡ true → has met u ≡ false → fit u ≡ true → has (kept plain fit met us) u ≡ true
-kept-from fit met us u a n f = has-kept fit met us u ∙ and-from (has us u) (not (has met u) && fit u) a (and-from (not (has met u)) (fit u) (not-from-false (has met u) n) f)
+kept-from fit met us u a n f =
+    has-kept fit met us u
+    ∙ and-from (has us u) (not (has met u) && fit u) a (and-from (not (has met u)) (fit u) (not-from-false (has met u) n) f)
 
 -- what f makes of the records of k, told by the same settings, is kept the same way
 module _ {R Q : Type 0} (k : Kind R) (q : Kind Q) (f : R → Q) (same : (r : R) → q .setting (f r) ≡ k .setting r) where
@@ -73,12 +84,16 @@ module _ {R : Type 0} (k : Kind R) (fit : ℕ → Bool) where
   push-under true p rest more new e = e
   push-under false p rest more new e = ap (λ l. p ∷ l) e
 
-  refused-itself : (a n : Bool) (p : R) (rest : List R) (s : ℕ) → eqb (k .setting p) s ≡ true → (a || (has (map (k .setting) (cond (a || n) rest (p ∷ rest))) s || n)) ≡ true
+  refused-itself :
+      (a n : Bool) (p : R) (rest : List R) (s : ℕ) → eqb (k .setting p) s ≡ true
+      → (a || (has (map (k .setting) (cond (a || n) rest (p ∷ rest))) s || n)) ≡ true
   refused-itself true n p rest s e = refl
   refused-itself false true p rest s e = or-right (has (map (k .setting) rest) s) true refl
   refused-itself false false p rest s e = or-left _ false (or-left _ (has (map (k .setting) rest) s) e)
 
-  told-past : (b : Bool) (p : R) (rest : List R) (s : ℕ) → eqb (k .setting p) s ≡ false → has (map (k .setting) rest) s ≡ has (map (k .setting) (cond b rest (p ∷ rest))) s
+  told-past :
+      (b : Bool) (p : R) (rest : List R) (s : ℕ) → eqb (k .setting p) s ≡ false
+      → has (map (k .setting) rest) s ≡ has (map (k .setting) (cond b rest (p ∷ rest))) s
   told-past true p rest s e = refl
   told-past false p rest s e = ap (λ b. b || has (map (k .setting) rest) s) (sym e)
 
@@ -106,7 +121,9 @@ module _ {R : Type 0} (k : Kind R) (fit : ℕ → Bool) where
           ∙ ap (λ b. has met s || (b || not (fit s))) (told-past here p rest s e)
 
   -- one arrival more: it is enough to look among the met and the kept
-  pub kept-push : (met : List ℕ) (rs : List R) (r : R) → kept k fit met (rs ++ r ∷ []) ≡ kept k fit met rs ++ cond (refused met (kept k fit met rs) (k .setting r)) [] (r ∷ [])
+  pub kept-push :
+      (met : List ℕ) (rs : List R) (r : R)
+      → kept k fit met (rs ++ r ∷ []) ≡ kept k fit met rs ++ cond (refused met (kept k fit met rs) (k .setting r)) [] (r ∷ [])
   kept-push met [] r = refl
   kept-push met (p ∷ rs) r =
       push-under (has met (k .setting p) || not (fit (k .setting p))) p (kept k fit (k .setting p ∷ met) rs) _ _ (kept-push (k .setting p ∷ met) rs r)
@@ -118,7 +135,8 @@ module _ {R : Type 0} (k : Kind R) (fit : ℕ → Bool) where
   kept-front met [] qs = (kept k fit met qs, refl)
   kept-front met (p ∷ rs) qs =
       let r = kept-front (k .setting p ∷ met) rs qs in
-      (r .0, sym (push-under k fit (has met (k .setting p) || not (fit (k .setting p))) p (kept k fit (k .setting p ∷ met) rs) (kept k fit (k .setting p ∷ met) (rs ++ qs)) (r .0) (sym (r .1))))
+      let here = has met (k .setting p) || not (fit (k .setting p)) in
+      (r .0, sym (push-under k fit here p (kept k fit (k .setting p ∷ met) rs) (kept k fit (k .setting p ∷ met) (rs ++ qs)) (r .0) (sym (r .1))))
 
 -- what is kept was there, and was not met
 module _ {R : Type 0} (k : Kind R) (fit : ℕ → Bool) where
@@ -126,7 +144,9 @@ module _ {R : Type 0} (k : Kind R) (fit : ℕ → Bool) where
   kept-in met [] r i = i
   kept-in met (p ∷ rs) r i = either (has met (k .setting p) || not (fit (k .setting p))) (λ l. kept-in (k .setting p ∷ met) rs r l) i
     where
-      either : (b : Bool) → (In r (kept k fit (k .setting p ∷ met) rs) → In r rs) → In r (cond b (kept k fit (k .setting p ∷ met) rs) (p ∷ kept k fit (k .setting p ∷ met) rs)) → In r (p ∷ rs)
+      either :
+          (b : Bool) → (In r (kept k fit (k .setting p ∷ met) rs) → In r rs)
+          → In r (cond b (kept k fit (k .setting p ∷ met) rs) (p ∷ kept k fit (k .setting p ∷ met) rs)) → In r (p ∷ rs)
       either true f l = inr (f l)
       either false f (inl e) = inl e
       either false f (inr l) = inr (f l)

@@ -62,7 +62,8 @@ module _ (m : Meaning) where
       let front : Leads m s (take h os) (after m s (take h os)) = subst (Leads m s (take h os)) at (l .1) in
       let back : Leads m (after m s (take h os)) (drop h os) t = subst (λ x. Leads m x (drop h os) t) at (l .2) in
       let least : (k : ℕ) → Linked m k s t → length (take h os) + length (drop h os) ≤ k = λ k x. omega (arith, d .1 k x, long) in
-      let first : Earliest m (length (take h os) + length (drop h os)) s t (take h os ++ drop h os) = subst (λ x. Earliest m x s t (take h os ++ drop h os)) long (subst (Earliest m n s t) (sym whole) e) in (
+      let first : Earliest m (length (take h os) + length (drop h os)) s t (take h os ++ drop h os) =
+      subst (λ x. Earliest m x s t (take h os ++ drop h os)) long (subst (Earliest m n s t) (sym whole) e) in (
         subst (λ x. Distance m x s (after m s (take h os))) front-long (front-distance (take h os) (drop h os) s (after m s (take h os)) t front back least),
         subst (λ x. Earliest m x s (after m s (take h os)) (take h os)) front-long (front-earliest (take h os) (drop h os) s (after m s (take h os)) t front back first),
         subst (λ x. Distance m x (after m s (take h os)) t) back-long (back-distance (take h os) (drop h os) s (after m s (take h os)) t front back least),

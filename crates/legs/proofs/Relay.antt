@@ -20,7 +20,7 @@ use Rattle.legs.proofs.Members.{has-told, in-map, map-in}
 use Rattle.legs.proofs.Tells.{layer-settings, in-layer}
 use Rattle.legs.proofs.Kept.{kept-in}
 use Rattle.legs.proofs.Earlier.{Upto, upto-then, upto-more, before-earlier}
-use Rattle.legs.proofs.Ways.{Way, way-kind, way-onward, way-arrivals, ways, ways-at, in-arrivals, arrivals-in}
+use Rattle.legs.proofs.Ways.{Way, way-kind, way-onward, way-arrivals, ways, One-on, ways-at, in-arrivals, arrivals-in}
 use Rattle.legs.proofs.Order.{ways-earliest}
 use Rattle.legs.proofs.Through.{Through, through-holds, through-leads, shortest-through}
 
@@ -37,23 +37,23 @@ module _ {R : Type 0} (m : Meaning) (k : Kind R) (t : Tells k) (g : Leg) where
   way-holds d w i = in-layer m k t g d (w .at) (subst (In (w .at)) (ways-at m k g d) (in-map (λ v. v .at) w (ways m k g d) i))
 
   -- the way before, and the step from it
-  way-before : (d : ℕ) (w : Way R) → In w (ways m k g (suc d)) → (v : Way R) × In v (ways m k g d) × (o : ℕ) × (u : ℕ) × Steps m (k .setting (v .at)) o u × (way-onward m k (suc d) v o u ≡ w)
+  way-before : (d : ℕ) (w : Way R) → In w (ways m k g (suc d)) → (v : Way R) × In v (ways m k g d) × One-on m k (suc d) v w
   way-before d w i =
-      let r = in-arrivals m k (suc d) (ways m k g d) w (kept-in (way-kind m k) (fits m g (suc d)) (grown m k g d .met) (way-arrivals m k (suc d) (ways m k g d)) w i) in
-      (r .0, r .1, r .2 .0, r .2 .1, r .2 .2, r .2 .3)
+      let arrived = way-arrivals m k (suc d) (ways m k g d) in
+      in-arrivals m k (suc d) (ways m k g d) w (kept-in (way-kind m k) (fits m g (suc d)) (grown m k g d .met) arrived w i)
 
   pub way-through : (d : ℕ) (w : Way R) → In w (ways m k g d) → Through m g (w .ops) (k .setting (w .at)) × (length (w .ops) ≡ d)
   way-through zero w i = subst (λ v. Through m g (v .ops) (k .setting (w .at)) × (length (v .ops) ≡ zero)) (first-way w i) (way-holds zero w i, refl)
   way-through (suc d) w i =
       let r = way-before d w i in
       let h = way-through d (r .0) (r .1) in
-      let at : k .setting (w .at) ≡ r .3 = ap (λ v. k .setting (v .at)) (sym (r .5)) ∙ t .arrives (suc d) (r .0 .at) (r .3) in
+      let at : k .setting (w .at) ≡ r .2 .1 = ap (λ v. k .setting (v .at)) (sym (r .2 .3)) ∙ t .arrives (suc d) (r .0 .at) (r .2 .1) in
       let long : suc d ≡ suc (length (r .0 .ops)) = ap suc (sym (h .1)) in
-      subst (λ l. Through m g l (k .setting (w .at)) × (length l ≡ suc d)) (ap (λ v. v .ops) (r .5)) (
+      subst (λ l. Through m g l (k .setting (w .at)) × (length l ≡ suc d)) (ap (λ v. v .ops) (r .2 .3)) (
         (
           k .setting (r .0 .at),
           h .0,
-          subst (Steps m (k .setting (r .0 .at)) (r .2)) (sym at) (r .4),
+          subst (Steps m (k .setting (r .0 .at)) (r .2 .0)) (sym at) (r .2 .2),
           subst (λ n. Holds m g n (k .setting (w .at))) long (way-holds (suc d) w i),
         ),
         ap suc (h .1),
@@ -105,18 +105,18 @@ module _ (m : Meaning) (n : ℕ) (g : Leg) (two : 2 ≤ n) where
   relay-on-way zero w i l = absurd (omega arith)
   relay-on-way (suc d) w i l =
       let r = way-before m (relays n) (relays-tell n) g d w i in
-      let handed : w .at .relay ≡ cond (eqb (suc d) (n / 2)) (r .3) (r .0 .at .relay) = ap (λ v. v .at .relay) (sym (r .5)) in
+      let handed : w .at .relay ≡ cond (eqb (suc d) (n / 2)) (r .2 .1) (r .0 .at .relay) = ap (λ v. v .at .relay) (sym (r .2 .3)) in
       ⊎-elim
       (λ later.
-      let same : w .at .relay ≡ r .0 .at .relay = handed ∙ cond-false (eqb (suc d) (n / 2)) (r .3) (r .0 .at .relay) (ne-eqb (suc d) (n / 2) (λ e. omega (arith, e))) in
+      let same : w .at .relay ≡ r .0 .at .relay = handed ∙ cond-false (eqb (suc d) (n / 2)) (r .2 .1) (r .0 .at .relay) (ne-eqb (suc d) (n / 2) (λ e. omega (arith, e))) in
       let one : suc d - n / 2 ≡ suc (d - n / 2) = omega arith in
-      let ops : drop (suc d - n / 2) (w .ops) ≡ drop (d - n / 2) (r .0 .ops) = ap (λ x. drop x (w .ops)) one ∙ ap (λ v. drop (suc (d - n / 2)) (v .ops)) (sym (r .5)) in
+      let ops : drop (suc d - n / 2) (w .ops) ≡ drop (d - n / 2) (r .0 .ops) = ap (λ x. drop x (w .ops)) one ∙ ap (λ v. drop (suc (d - n / 2)) (v .ops)) (sym (r .2 .3)) in
       subst (λ x. Leads m (g .start) (reverse (drop (suc d - n / 2) (w .ops))) x) (sym same)
       (subst (λ x. Leads m (g .start) (reverse x) (r .0 .at .relay)) (sym ops) (relay-on-way d (r .0) (r .1) (omega arith))))
       (λ here.
-      let same : w .at .relay ≡ r .3 = handed ∙ cond-true (eqb (suc d) (n / 2)) (r .3) (r .0 .at .relay) (eq-eqb (suc d) (n / 2) (omega arith)) in
+      let same : w .at .relay ≡ r .2 .1 = handed ∙ cond-true (eqb (suc d) (n / 2)) (r .2 .1) (r .0 .at .relay) (eq-eqb (suc d) (n / 2) (omega arith)) in
       let none : 0 ≡ suc d - n / 2 = omega arith in
-      let at : w .at .setting ≡ r .3 = ap (λ v. v .at .setting) (sym (r .5)) in
+      let at : w .at .setting ≡ r .2 .1 = ap (λ v. v .at .setting) (sym (r .2 .3)) in
       let h = way-through m (relays n) (relays-tell n) g (suc d) w i in
       subst (λ x. Leads m (g .start) (reverse (drop x (w .ops))) (w .at .relay)) none
       (subst (Leads m (g .start) (reverse (w .ops))) (at ∙ sym same) (through-leads m g (w .ops) (w .at .setting) (h .0))))

@@ -100,7 +100,8 @@ module _ {R : Type 0} (m : Meaning) (k : Kind R) where
       ⊎-elim
       (λ b. in-left (way-onward d w o u) (way-reached d w n) _ (reached-in d w n o u b s))
       (λ b. let e : o ≡ n = omega arith in
-      in-right (way-onward d w o u) (way-reached d w n) _ (subst (λ t. In (way-onward d w o u) (way-arrival d w n t)) (sym s ∙ ap (m .step (k .setting (w .at))) e) (inl (ap (λ p. way-onward d w p u) (sym e)))))
+      let arrives = subst (λ t. In (way-onward d w o u) (way-arrival d w n t)) (sym s ∙ ap (m .step (k .setting (w .at))) e) (inl (ap (λ p. way-onward d w p u) (sym e))) in
+      in-right (way-onward d w o u) (way-reached d w n) _ arrives)
       (cases-lt o n)
 
   pub in-arrivals : (d : ℕ) (ws : List (Way R)) (v : Way R) → In v (way-arrivals d ws) → (w : Way R) × In w ws × One-on d w v
