@@ -9,6 +9,15 @@ ghost use Rattle.valves.specs.Data.{Bench-data};
 use crate::fault::BenchFault;
 use crate::interlock::Interlock;
 
+// The most valves and interlocks of a bench, and the fewest and most positions of a valve.
+const VALVES: usize = 12;
+
+const INTERLOCKS: usize = 32;
+
+const FEWEST: u8 = 2;
+
+const MOST: u8 = 4;
+
 // The first fault of the data, in the order of the checks; none exactly where they make a bench.
 pub fn first_fault(positions: &[u8], interlocks: &[Interlock]) -> Option<BenchFault>
     ensures exact { λ r. ⌜ r ≡ bench-fault (now (positions .entry)) (now (interlocks .entry)) ⌝ }
@@ -24,10 +33,10 @@ fn data_fault(positions: &[u8], interlocks: &[Interlock]) -> Option<BenchFault>
     if valves < 1 {
         return Some(BenchFault::Valves);
     }
-    if valves > 12 {
+    if valves > VALVES {
         return Some(BenchFault::Valves);
     }
-    if interlocks.len() > 32 {
+    if interlocks.len() > INTERLOCKS {
         return Some(BenchFault::Interlocks);
     }
     match first_positions_fault(positions) {
@@ -42,10 +51,10 @@ fn first_positions_fault(positions: &[u8]) -> Option<BenchFault>
     ensures { λ r. ⌜ r ≡ positions-fault (now (positions .entry)) 0 ⌝ }
 {
     for (valve, count) in positions.iter().enumerate() {
-        if *count < 2 {
+        if *count < FEWEST {
             return Some(BenchFault::Positions(valve as u8));
         }
-        if *count > 4 {
+        if *count > MOST {
             return Some(BenchFault::Positions(valve as u8));
         }
     }

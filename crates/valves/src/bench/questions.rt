@@ -34,7 +34,7 @@ pub impl Plant for Bench as BenchPlant {
     }
 
     fn reverse(&self, operation: u16) -> u16 {
-        if operation >= 2 * self.valves as u16 {
+        if operation >= self.operations() {
             return operation;
         }
         if operation % 2 == 0 {

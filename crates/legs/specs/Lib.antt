@@ -1,0 +1,10 @@
+pub mod Kinds
+pub mod Layers
+pub mod Filling
+pub mod Legs
+pub mod Laws
+pub mod Lists
+pub mod Relays
+pub mod Answers
+pub mod Plans
+pub mod PlanLaws
