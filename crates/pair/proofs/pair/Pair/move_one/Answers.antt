@@ -1,5 +1,5 @@
 -- The joined setting is one of the pair's, which are few enough to fit.
-use Prim.Native.Nat.{_-_, _<_}
+use Prim.Native.Nat.{_<_}
 use native.Mathlib.Omega.{arith}
 use Rattle.pair.specs.Meaning.{joined}
 use Rattle.pair.proofs.Fits as fits
@@ -15,7 +15,7 @@ first-moved g c =
 second-moved : (g : given.Over) (c : need.In-Some-step g) → joined (c .settings-settings .result) (c .args .one) (c .in-Some-step .next) < 16777216
 second-moved g c =
     fits.second-moved-fits (g .F·Plant .meaning (c .args .self .now .first)) (g .S·Plant .meaning (c .args .self .now .second))
-    (c .settings-settings .result) (c .args .one) (c .args .other) (c .args .operation - c .operations-offset .result) (c .step-else-operation-offset .result) (c .in-Some-step .next)
+    (c .settings-settings .result) (c .args .one) (c .args .other) _ (c .step-else-operation-offset .result) (c .in-Some-step .next)
     (g .S·Plant·met .lawful (c .args .self .now .second)) (c .pre .fits) (c .settings-settings .ensures) (c .pre .first) (c .step-else-operation-offset .ensures) (c .in-Some-step .is)
 
 pub mul-result : need.mul-result
