@@ -1,7 +1,7 @@
 -- A pair of lawful plants is lawful, also where it is too large. Assumes nothing.
 use mathlib.Core.Path.{_≡_, refl, sym, ap, subst, _∙_}
 use mathlib.Core.List.{List}
-use mathlib.Core.Bool.{false}
+use mathlib.Core.Bool.{true, false}
 use mathlib.Core.Logic.{⊎-elim}
 use Prim.Native.Nat.{ℕ, _+_, _-_, _*_, _≤_}
 use native.Mathlib.Nat.{mul-le-mul}
@@ -99,9 +99,16 @@ alone-lawful = record {
   estimate-least = λ os s t leads. omega arith;
 }
 
+-- which of the two a pair is
+pub pair-alone : (a b : Meaning) → too-large a b ≡ true → pair a b ≡ alone
+pair-alone a b e = cond-true (too-large a b) alone (beside a b) e
+
+pub pair-beside : (a b : Meaning) → too-large a b ≡ false → pair a b ≡ beside a b
+pair-beside a b e = cond-false (too-large a b) alone (beside a b) e
+
 pub pair-lawful : (a b : Meaning) → Lawful a → Lawful b → Lawful (pair a b)
 pair-lawful a b la lb =
     ⊎-elim
-    (λ e. subst Lawful (sym (cond-true (too-large a b) alone (beside a b) e)) alone-lawful)
-    (λ e. subst Lawful (sym (cond-false (too-large a b) alone (beside a b) e)) (beside-lawful a b la lb e))
+    (λ e. subst Lawful (sym (pair-alone a b e)) alone-lawful)
+    (λ e. subst Lawful (sym (pair-beside a b e)) (beside-lawful a b la lb e))
     (cases-bool (too-large a b))

@@ -10,7 +10,8 @@ use Rattle.plant.specs.Meaning.{Meaning}
 abbrev pub too-large : Meaning → Meaning → Bool
 too-large a b = ltb 16777216 (a .settings * b .settings) || ltb 2048 (a .operations + b .operations)
 
--- the settings of the two plants in a setting s of the pair, and back, where the first plant has n settings
+-- the settings of the two plants in a setting s of the pair, and back, where the first plant has n settings; both at
+-- once, where s is in range
 abbrev pub first-part : ℕ → ℕ → ℕ
 first-part n s = s % n
 
@@ -19,6 +20,9 @@ second-part n s = s / n
 
 abbrev pub joined : ℕ → ℕ → ℕ → ℕ
 joined n x y = x + n * y
+
+abbrev pub parts-in : ℕ → ℕ → ℕ → Option (ℕ × ℕ)
+parts-in range n s = cond (ltb s range) (Some (first-part n s, second-part n s)) None
 
 -- where the first plant moves, or the second, the other stays
 abbrev pub first-moves : ℕ → ℕ → Option ℕ → Option ℕ
@@ -78,4 +82,4 @@ pair a b = cond (too-large a b) alone (beside a b)
 
 -- the settings of the two plants in a setting of the pair
 abbrev pub parts : Meaning → Meaning → ℕ → Option (ℕ × ℕ)
-parts a b s = cond (ltb s (pair a b .settings)) (Some (first-part (a .settings) s, second-part (a .settings) s)) None
+parts a b s = parts-in (pair a b .settings) (a .settings) s

@@ -1,5 +1,5 @@
 -- Laws of the tags over a lawful plant: they come in pairs, and a tag covers an operation and its reverse alone.
-use mathlib.Core.Path.{_≡_, refl, sym, ap, _∙_}
+use mathlib.Core.Path.{_≡_, refl, sym, ap, subst, _∙_}
 use mathlib.Core.List.{List}
 use mathlib.Core.Bool.{Bool, true, false, cond, _&&_, _||_}
 use mathlib.Core.Logic.{_≢_, ⊎-elim}
@@ -11,7 +11,7 @@ use Rattle.std.proofs.shelf.Lists.{length-set, length-replicate, getD-replicate
 use Rattle.std.proofs.shelf.Tests.{cases-eq, cases-lt, lt-ltb, eq-eqb, ne-eqb, and-right, or-left, or-right, or-from, cond-true, cond-false}
 use Rattle.plant.specs.Meaning.{Meaning}
 use Rattle.plant.specs.Laws.{Lawful}
-use Rattle.tagged.specs.Tags.{untagged, bears, covers, cover}
+use Rattle.tagged.specs.Tags.{untagged, bears, covers, cover, Covered}
 
 or-swapped : (a b : Bool) → (a || b) ≡ (b || a)
 or-swapped true true = refl
@@ -90,3 +90,9 @@ covered-only m tags o on l long h k =
     ∙ sym (cond-false (covers m o k) _ _ (or-from _ _ (ne-eqb k o ne) (ne-eqb k (m .reverse o) ne′))))
     (cases-eq k (m .reverse o)))
     (cases-eq k o)
+
+-- a write at an operation and at its reverse r
+pub written-both : (m : Meaning) (tags : List Bool) (o r : ℕ) (on : Bool) → Lawful m → length tags ≡ 2048 → o < m .operations → r ≡ m .reverse o → Covered m tags o on (set (set tags o on) r on)
+written-both m tags o r on l long h is =
+    let At : ℕ → Type 0 = λ k. Covered m tags o on (set (set tags o on) k on) in
+    subst At (sym is) record { tags-are = refl; only-these = covered-only m tags o on l long h }

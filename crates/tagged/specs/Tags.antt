@@ -42,12 +42,12 @@ abbrev pub untag-refusal : Meaning → List Bool → ℕ → Option Refusal
 untag-refusal m tags o = cond (ltb o (m .operations)) (cond (bears m tags o) None (Some Untagged)) (Some NoSuchOperation)
 
 -- what a call that may be refused answers and leaves: a refusal changes nothing
-abbrev pub Answers : Option Refusal → Meaning → List Bool → ℕ → Bool → List Bool → Result Unit Refusal → Type 0
-Answers refusal m before o on after (Ok _) = (refusal ≡ None) × Covered m before o on after
-Answers refusal m before o on after (Err e) = (refusal ≡ Some e) × (after ≡ before)
+abbrev pub Outcome : Option Refusal → Meaning → List Bool → ℕ → Bool → List Bool → Result Unit Refusal → Type 0
+Outcome refusal m before o on after (Ok _) = (refusal ≡ None) × Covered m before o on after
+Outcome refusal m before o on after (Err e) = (refusal ≡ Some e) × (after ≡ before)
 
 abbrev pub Tags : Meaning → List Bool → ℕ → List Bool → Result Unit Refusal → Type 0
-Tags m before o after r = Answers (tag-refusal m before o) m before o true after r
+Tags m before o after r = Outcome (tag-refusal m before o) m before o true after r
 
 abbrev pub Untags : Meaning → List Bool → ℕ → List Bool → Result Unit Refusal → Type 0
-Untags m before o after r = Answers (untag-refusal m before o) m before o false after r
+Untags m before o after r = Outcome (untag-refusal m before o) m before o false after r

@@ -10,7 +10,7 @@ use Rattle.track.specs.declared.link.Link.{Link}
 use Rattle.track.specs.declared.link.TrackFault.{TrackFault}
 use Rattle.track.specs.declared.link.TrackFault.the-variants.{Stations, Links, First, Second, Same}
 
--- the link in a row joins two different stations below the number of stations
+-- what is wrong with the link of a row: its first station, its second, or that the two are the same
 abbrev pub row-fault : ℕ → ℕ → Link → Option TrackFault
 row-fault stations row link =
     cond (leb stations (link .one)) (Some (First row))

@@ -2,7 +2,7 @@
 ghost use mathlib.Core.Path.{_≡_};
 ghost use mathlib.Core.Bool.{false};
 ghost use Prim.Native.Nat.{_<_};
-ghost use Rattle.pair.specs.Meaning.{pair, too-large, parts, moved};
+ghost use Rattle.pair.specs.Meaning.{pair, too-large, parts, parts-in, moved};
 ghost use Rattle.pair.specs.Pair.{first-of, second-of};
 use crate::pair::Pair;
 use plant::plant::Plant;
@@ -48,7 +48,14 @@ impl<F: Plant, S: Plant> Pair<F, S> {
     pub fn split(&self, setting: u32) -> Option<(u32, u32)>
         ensures { λ r. ⌜ r ≡ parts (F·Plant .meaning (first-of (now (self .entry)))) (S·Plant .meaning (second-of (now (self .entry)))) setting ⌝ }
     {
-        if setting < self.range() {
+        self.split_in(self.range(), setting)
+    }
+
+    // The same where the range is known. Asking for it again would cost as much as the step.
+    pub(crate) fn split_in(&self, range: u32, setting: u32) -> Option<(u32, u32)>
+        ensures { λ r. ⌜ r ≡ parts-in range (F·Plant .meaning (first-of (now (self .entry))) .settings) setting ⌝ }
+    {
+        if setting < range {
             let settings = self.first.settings();
             Some((setting % settings, setting / settings))
         } else {

@@ -26,7 +26,8 @@ pub impl<F: Plant, S: Plant> Plant for Pair<F, S> as PairPlant {
         if self.too_large() {
             return None;
         }
-        match self.split(setting) {
+        let range = self.first.settings() * self.second.settings();
+        match self.split_in(range, setting) {
             Some((one, other)) => self.move_one(one, other, operation),
             None => None,
         }
@@ -48,7 +49,8 @@ pub impl<F: Plant, S: Plant> Plant for Pair<F, S> as PairPlant {
         if self.too_large() {
             return 0;
         }
-        match (self.split(from), self.split(to)) {
+        let range = self.first.settings() * self.second.settings();
+        match (self.split_in(range, from), self.split_in(range, to)) {
             (Some((one, other)), Some((one_to, other_to))) => {
                 let sum = self.first.estimate(one, one_to) as u32
                     + self.second.estimate(other, other_to) as u32;
