@@ -1,0 +1,3 @@
+// The search of one leg, layer by layer, in a workspace of records that the caller lends.
+pub mod record;
+pub mod lookup;
