@@ -1,2 +1,5 @@
 pub mod Records
 pub mod Places
+pub mod Stored
+pub mod Leg
+pub mod Offered
