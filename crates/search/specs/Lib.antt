@@ -3,3 +3,4 @@ pub mod Places
 pub mod Stored
 pub mod Leg
 pub mod Offered
+pub mod Stands

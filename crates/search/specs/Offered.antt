@@ -1,9 +1,11 @@
--- What becomes of an arrival that is offered to the store. Assumes nothing.
+-- What becomes of the arrivals that are offered to the store. Assumes nothing.
 use mathlib.Core.Path.{_≡_}
 use mathlib.Core.Bool.{Bool, true, false, not, _||_, cond}
 use mathlib.Core.List.{List, [], _∷_, _++_, map}
-use Prim.Native.Nat.{ℕ, _+_}
+use Prim.Native.Nat.{ℕ, _+_, _≤_}
 use lib.ListN.{length}
+use Rattle.std.specs.declared.option.Option.{Option}
+use Rattle.std.specs.declared.option.Option.the-variants.{Some, None}
 use Rattle.plant.specs.Meaning.{Meaning}
 use Rattle.legs.specs.Layers.{Leg, has, fits}
 use Rattle.search.specs.declared.store.Store.{Store}
@@ -13,9 +15,14 @@ use Rattle.search.specs.Stored.{room-of, standing, Kept}
 abbrev pub turned-away : {R : Type 0} → (R → ℕ) → Meaning → Leg → ℕ → ℕ → Store R → Bool
 turned-away tells m g d u s = has (map tells (standing s)) u || not (fits m g d u)
 
--- it has entered behind the others unless it is turned away; or there was no place for it, and nothing is changed
-abbrev pub Offered : {R : Type 0} → (R → ℕ) → (List ℕ → Type 0) → Store R → Store R → Bool → R → Bool → Type 0
-Offered tells Follows s s′ away r true =
-    Kept tells Follows s s′ × (s′ .next ≡ s .next + length (cond away [] (r ∷ []))) × (standing s′ ≡ standing s ++ cond away [] (r ∷ []))
-Offered tells Follows s s′ away r false =
-    Kept tells Follows s s′ × (s′ .next ≡ s .next) × (standing s′ ≡ standing s) × (away ≡ false) × (length (room-of s) ≡ s .before + s .present + s .next)
+-- the record that a step arrives with, if it leads anywhere and is not turned away
+abbrev pub arriving : {R : Type 0} → (R → ℕ) → Meaning → Leg → ℕ → (ℕ → R) → Store R → Option ℕ → List R
+arriving tells m g d new s None = []
+arriving tells m g d new s (Some u) = cond (turned-away tells m g d u s) [] (new u ∷ [])
+
+-- these records have entered behind the others; or there was no place for one of them
+abbrev pub Taken : {R : Type 0} → (R → ℕ) → (List ℕ → Type 0) → Store R → Store R → List R → Bool → Type 0
+Taken tells Follows s s′ rs true =
+    Kept tells Follows s s′ × (s′ .next ≡ s .next + length rs) × (standing s′ ≡ standing s ++ rs)
+Taken tells Follows s s′ rs false =
+    Kept tells Follows s s′ × (1 ≤ length rs) × (length (room-of s) ≡ s .before + s .present + s .next)

@@ -1,9 +1,13 @@
-// Filling the next layer: one arrival, one record, one layer.
+// Filling the next layer: by one arrival, by one operation, by one record, by the whole layer.
 ghost use mathlib.Core.Path.{_≡_};
 ghost use denote.Ref.{name};
+ghost use Prim.Native.Nat.{_+_, _<_};
+ghost use Rattle.std.specs.declared.option.Option.the-variants.{Some};
+ghost use Rattle.search.specs.Records.{kind};
 ghost use Rattle.search.specs.Leg.{leg-of};
 ghost use Rattle.search.specs.Stored.{Ready};
-ghost use Rattle.search.specs.Offered.{turned-away, Offered};
+ghost use Rattle.search.specs.Offered.{arriving, Taken};
+ghost use Rattle.search.specs.Stands.{Stands, filled-by, Expanded};
 use crate::leg::Leg;
 use crate::lookup::Lookup;
 use crate::record::Record;
@@ -14,7 +18,7 @@ impl<'a, R: Record> Store<'a, R> {
     // Takes in a setting that a step led to, unless it is met already or does not fit. False where there is no place.
     pub(crate) fn offer<P: Plant, L: Lookup<R>>(&mut self, lookup: &mut L, plant: &P, leg: &Leg, depth: u16, from: R, to: u32) -> bool
         requires { ⌜ Ready (R·Record .tells) (L·Lookup .follows (now lookup)) (now self) ⌝ }
-        ensures offered { λ r. ⌜ Offered (R·Record .tells) (L·Lookup .follows (now (lookup .exit))) (now (self .entry)) (now (self .exit)) (turned-away (R·Record .tells) (meaning (now (plant .entry))) (leg-of (now (leg .entry))) depth to (now (self .entry))) (R·Record .carries (now (leg .entry) .half) depth from to) r ⌝ }
+        ensures taken { λ r. ⌜ Taken (R·Record .tells) (L·Lookup .follows (now (lookup .exit))) (now (self .entry)) (now (self .exit)) (arriving (R·Record .tells) (meaning (now (plant .entry))) (leg-of (now (leg .entry))) depth (R·Record .carries (now (leg .entry) .half) depth from) (now (self .entry)) (Some to)) r ⌝ }
         ensures lender { λ _. ⌜ name (now (self .exit) .room) ≡ name (now (self .entry) .room) ⌝ }
     {
         if self.meets(lookup, to) {
@@ -24,5 +28,17 @@ impl<'a, R: Record> Store<'a, R> {
             return true;
         }
         self.push(lookup, from.carry(leg.half, depth, to))
+    }
+
+    // Takes in what the operation leads to from the record, if anything.
+    pub(crate) fn attempt<P: Plant, L: Lookup<R>>(&mut self, lookup: &mut L, plant: &P, leg: &Leg, depth: u16, from: R, operation: u16) -> bool
+        requires { ⌜ Ready (R·Record .tells) (L·Lookup .follows (now lookup)) (now self) ⌝ }
+        ensures taken { λ r. ⌜ Taken (R·Record .tells) (L·Lookup .follows (now (lookup .exit))) (now (self .entry)) (now (self .exit)) (arriving (R·Record .tells) (meaning (now (plant .entry))) (leg-of (now (leg .entry))) depth (R·Record .carries (now (leg .entry) .half) depth from) (now (self .entry)) (meaning (now (plant .entry)) .step (R·Record .tells from) operation)) r ⌝ }
+        ensures lender { λ _. ⌜ name (now (self .exit) .room) ≡ name (now (self .entry) .room) ⌝ }
+    {
+        match plant.step(from.setting(), operation) {
+            Some(to) => self.offer(lookup, plant, leg, depth, from, to),
+            None => true,
+        }
     }
 }
