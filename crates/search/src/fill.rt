@@ -41,4 +41,23 @@ impl<'a, R: Record> Store<'a, R> {
             None => true,
         }
     }
+
+    // Expands the record at this place of the present layer: every operation, in their order.
+    pub(crate) fn expand_record<P: Plant, L: Lookup<R>>(&mut self, lookup: &mut L, plant: &P, leg: &Leg, depth: u16, place: usize) -> bool
+        requires ready { ⌜ Ready (R·Record .tells) (L·Lookup .follows (now lookup)) (now self) ⌝ }
+        requires place { ⌜ place < now self .present ⌝ }
+        requires depth { ⌜ depth < 65535 ⌝ }
+        requires stands { ⌜ Stands (meaning (now plant)) (kind (R·Record .tells) (R·Record .opens) (R·Record .carries) (now leg .half)) (leg-of (now leg)) depth (filled-by (meaning (now plant)) (kind (R·Record .tells) (R·Record .opens) (R·Record .carries) (now leg .half)) (leg-of (now leg)) depth place) (now self) ⌝ }
+        ensures expanded { λ r. ⌜ Expanded (R·Record .tells) (L·Lookup .follows (now (lookup .exit))) (meaning (now (plant .entry))) (kind (R·Record .tells) (R·Record .opens) (R·Record .carries) (now (leg .entry) .half)) (leg-of (now (leg .entry))) depth (place + 1) (now (self .entry)) (now (self .exit)) r ⌝ }
+        ensures lender { λ _. ⌜ name (now (self .exit) .room) ≡ name (now (self .entry) .room) ⌝ }
+    {
+        let at = self.before + place;
+        let from = self.room[at];
+        for operation in 0..plant.operations() {
+            if !self.attempt(lookup, plant, leg, depth + 1, from, operation) {
+                return false;
+            }
+        }
+        true
+    }
 }
