@@ -27,3 +27,8 @@ filled-by m k g d n = filled m k g d (take n (layer m k g d))
 abbrev pub Expanded : {R : Type 0} → (R → ℕ) → (List ℕ → Type 0) → Meaning → Kind R → Leg → ℕ → ℕ → Store R → Store R → Bool → Type 0
 Expanded tells Follows m k g d n s s′ true = Kept tells Follows s s′ × Stands m k g d (filled-by m k g d n) s′
 Expanded tells Follows m k g d n s s′ false = Kept tells Follows s s′ × (length (room-of s) < room m g d)
+
+-- the next layer is complete; or the slice is too short for what stands while this layer is expanded
+abbrev pub Completed : {R : Type 0} → (R → ℕ) → (List ℕ → Type 0) → Meaning → Kind R → Leg → ℕ → Store R → Store R → Bool → Type 0
+Completed tells Follows m k g d s s′ true = Kept tells Follows s s′ × Stands m k g d (layer m k g (suc d)) s′
+Completed tells Follows m k g d s s′ false = Kept tells Follows s s′ × (length (room-of s) < room m g d)

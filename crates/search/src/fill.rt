@@ -1,5 +1,6 @@
 // Filling the next layer: by one arrival, by one operation, by one record, by the whole layer.
 ghost use mathlib.Core.Path.{_≡_};
+ghost use mathlib.Core.List.{[]};
 ghost use denote.Ref.{name};
 ghost use Prim.Native.Nat.{_+_, _<_};
 ghost use Rattle.std.specs.declared.option.Option.the-variants.{Some};
@@ -7,7 +8,7 @@ ghost use Rattle.search.specs.Records.{kind};
 ghost use Rattle.search.specs.Leg.{leg-of};
 ghost use Rattle.search.specs.Stored.{Ready};
 ghost use Rattle.search.specs.Offered.{arriving, Taken};
-ghost use Rattle.search.specs.Stands.{Stands, filled-by, Expanded};
+ghost use Rattle.search.specs.Stands.{Stands, filled-by, Expanded, Completed};
 use crate::leg::Leg;
 use crate::lookup::Lookup;
 use crate::record::Record;
@@ -55,6 +56,23 @@ impl<'a, R: Record> Store<'a, R> {
         let from = self.room[at];
         for operation in 0..plant.operations() {
             if !self.attempt(lookup, plant, leg, depth + 1, from, operation) {
+                return false;
+            }
+        }
+        true
+    }
+
+    // Expands the whole present layer, so that the next one is complete.
+    pub(crate) fn expand_layer<P: Plant, L: Lookup<R>>(&mut self, lookup: &mut L, plant: &P, leg: &Leg, depth: u16) -> bool
+        requires ready { ⌜ Ready (R·Record .tells) (L·Lookup .follows (now lookup)) (now self) ⌝ }
+        requires depth { ⌜ depth < 65535 ⌝ }
+        requires stands { ⌜ Stands (meaning (now plant)) (kind (R·Record .tells) (R·Record .opens) (R·Record .carries) (now leg .half)) (leg-of (now leg)) depth [] (now self) ⌝ }
+        ensures completed { λ r. ⌜ Completed (R·Record .tells) (L·Lookup .follows (now (lookup .exit))) (meaning (now (plant .entry))) (kind (R·Record .tells) (R·Record .opens) (R·Record .carries) (now (leg .entry) .half)) (leg-of (now (leg .entry))) depth (now (self .entry)) (now (self .exit)) r ⌝ }
+        ensures lender { λ _. ⌜ name (now (self .exit) .room) ≡ name (now (self .entry) .room) ⌝ }
+    {
+        let count = self.present;
+        for place in 0..count {
+            if !self.expand_record(lookup, plant, leg, depth, place) {
                 return false;
             }
         }
