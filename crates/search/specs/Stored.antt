@@ -3,7 +3,7 @@ use mathlib.Core.Path.{_≡_}
 use mathlib.Core.Bool.{Bool, true, false}
 use mathlib.Core.List.{List, [], _∷_, _++_, map}
 use Prim.Native.Nat.{ℕ, _+_, _≤_}
-use lib.ListN.{length, take}
+use lib.ListN.{length, take, drop}
 use denote.Ref.{now}
 use Rattle.search.specs.declared.store.Store.{Store}
 
@@ -32,3 +32,12 @@ Pushed tells Follows s s′ r true =
     Kept tells Follows s s′ × (s′ .next ≡ s .next + 1) × (standing s′ ≡ standing s ++ (r ∷ []))
 Pushed tells Follows s s′ r false =
     Kept tells Follows s s′ × (s′ .next ≡ s .next) × (standing s′ ≡ standing s) × (length (room-of s) ≡ s .before + s .present + s .next)
+
+-- the layer before is given up, and the two others stand one place nearer to the front
+pub record Advanced {R : Type 0} (tells : R → ℕ) (Follows : List ℕ → Type 0) (s s′ : Store R) : Type 0 where
+  pub ready : Ready tells Follows s′
+  pub long : length (room-of s′) ≡ length (room-of s)
+  pub befores : s′ .before ≡ s .present
+  pub presents : s′ .present ≡ s .next
+  pub nexts : s′ .next ≡ 0
+  pub left : standing s′ ≡ drop (s .before) (standing s)

@@ -4,3 +4,4 @@ pub mod lookup;
 pub mod leg;
 pub mod store;
 pub mod fill;
+pub mod moves;
