@@ -17,7 +17,7 @@ use Rattle.search.specs.Offered.{turned-away, arriving, Taken}
 module _ {R : Type 0} (tells : R → ℕ) (Follows : List ℕ → Type 0) (s : Store R) where
   -- nothing is changed
   pub unchanged : Ready tells Follows s → Kept tells Follows s s
-  unchanged ready = record { ready = ready; long = refl; befores = refl; presents = refl }
+  unchanged ready = record { ready = ready; long = refl; befores = refl; presents = refl; more = omega arith; behind = refl }
 
   -- no record enters
   pub taken-none : (rs : List R) → Ready tells Follows s → rs ≡ [] → Taken tells Follows s s rs true

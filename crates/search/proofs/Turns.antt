@@ -9,7 +9,7 @@ use native.Mathlib.Omega.{arith}
 use lib.ListN.{length, take, drop, getD}
 use Rattle.std.specs.declared.option.Option.{Option}
 use Rattle.std.specs.declared.option.Option.the-variants.{Some, None}
-use Rattle.std.proofs.shelf.Lists.{append-nil, append-assoc, length-append, take-append-drop, drop-more, take-more, getD-append-right, getD-append-left, getD-take}
+use Rattle.std.proofs.shelf.Lists.{append-nil, append-assoc, length-append, take-append-drop, drop-more, take-more, getD-append-right, getD-append-left, getD-take, drop-drop}
 use Rattle.plant.specs.Meaning.{Meaning, Steps}
 use Rattle.plant.specs.Laws.{Lawful}
 use Rattle.legs.specs.Kinds.{Kind, Tells}
@@ -20,14 +20,27 @@ use Rattle.legs.proofs.Filling.{filled-starts, filled-ends, filled-passes, fill
 use Rattle.legs.proofs.Members.{in-getD}
 use Rattle.legs.proofs.Need.{room-layers}
 use Rattle.search.specs.declared.store.Store.{Store}
-use Rattle.search.specs.Stored.{room-of, standing, Ready, Kept}
+use Rattle.search.specs.Stored.{room-of, count, standing, Ready, Kept}
 use Rattle.search.specs.Offered.{turned-away, arriving, Taken}
 use Rattle.search.specs.Stands.{Stands, filled-by, Expanded}
+
+-- what is the same from one place on is the same from any later place on
+pub drop-further : {X : Type 0} (i j : ℕ) (xs ys : List X) → i ≤ j → drop i xs ≡ drop i ys → drop j xs ≡ drop j ys
+drop-further i j xs ys h e =
+    let split : i + (j - i) ≡ j = omega arith in
+    ap (λ n. drop n xs) (sym split) ∙ sym (drop-drop (j - i) i xs) ∙ ap (drop (j - i)) e ∙ drop-drop (j - i) i ys ∙ ap (λ n. drop n ys) split
 
 -- kept by one step and then another
 pub kept-on : {R : Type 0} (tells : R → ℕ) (F G : List ℕ → Type 0) (s t u : Store R) → Kept tells F s t → Kept tells G t u → Kept tells G s u
 kept-on tells F G s t u a b =
-    record { ready = b .ready; long = b .long ∙ a .long; befores = b .befores ∙ a .befores; presents = b .presents ∙ a .presents }
+    record {
+      ready = b .ready;
+      long = b .long ∙ a .long;
+      befores = b .befores ∙ a .befores;
+      presents = b .presents ∙ a .presents;
+      more = omega (arith, a .more, b .more);
+      behind = b .behind ∙ drop-further (count t) (count u) (room-of t) (room-of s) (b .more) (a .behind);
+    }
 
 module _ {R : Type 0} (m : Meaning) (lawful : Lawful m) (k : Kind R) (t : Tells k) (g : Leg) (d : ℕ) where
   -- records behind those that stand

@@ -9,7 +9,7 @@ use Rattle.std.specs.declared.option.Option.the-variants.{Some, None}
 use Rattle.plant.specs.Meaning.{Meaning}
 use Rattle.legs.specs.Layers.{Leg, has, fits}
 use Rattle.search.specs.declared.store.Store.{Store}
-use Rattle.search.specs.Stored.{room-of, standing, Kept}
+use Rattle.search.specs.Stored.{room-of, count, standing, Kept}
 
 -- whether a setting is turned away at depth d: a record with it stands already, or it does not fit
 abbrev pub turned-away : {R : Type 0} → (R → ℕ) → Meaning → Leg → ℕ → ℕ → Store R → Bool
@@ -25,4 +25,4 @@ abbrev pub Taken : {R : Type 0} → (R → ℕ) → (List ℕ → Type 0) → St
 Taken tells Follows s s′ rs true =
     Kept tells Follows s s′ × (s′ .next ≡ s .next + length rs) × (standing s′ ≡ standing s ++ rs)
 Taken tells Follows s s′ rs false =
-    Kept tells Follows s s′ × (1 ≤ length rs) × (length (room-of s) ≡ s .before + s .present + s .next)
+    Kept tells Follows s s′ × (1 ≤ length rs) × (length (room-of s) ≡ count s)

@@ -13,7 +13,8 @@ use crate::store::Store;
 fn move_down<R: Record>(room: &mut [R], count: usize, gone: usize)
     requires count { ⌜ count ≤ length (now room) ⌝ }
     requires gone { ⌜ gone ≤ count ⌝ }
-    ensures { λ _. ⌜ take (count - gone) (now (room .exit)) ≡ drop gone (take count (now (room .entry))) ⌝ }
+    ensures front { λ _. ⌜ take (count - gone) (now (room .exit)) ≡ drop gone (take count (now (room .entry))) ⌝ }
+    ensures behind { λ _. ⌜ drop count (now (room .exit)) ≡ drop count (now (room .entry)) ⌝ }
 {
     room[0..count].rotate_left(gone);
 }

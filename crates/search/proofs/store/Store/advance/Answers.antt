@@ -13,7 +13,7 @@ returns g c =
     let s = c .args .self .now in
     let tells = g .R·Record .tells in
     let fewer : s .present + s .next + 0 ≡ s .before + s .present + s .next - s .before = omega arith in
-    let stays : take (s .present + s .next + 0) (c .move-down .last .room) ≡ drop (s .before) (standing s) = ap (λ n. take n (c .move-down .last .room)) fewer ∙ c .move-down .ensures in
+    let stays : take (s .present + s .next + 0) (c .move-down .last .room) ≡ drop (s .before) (standing s) = ap (λ n. take n (c .move-down .last .room)) fewer ∙ c .move-down .ensures .front in
     let long = c .move-down .kept .room in
     record {
       advanced =
@@ -28,6 +28,7 @@ returns g c =
           presents = refl;
           nexts = refl;
           left = stays;
+          behind = c .move-down .ensures .behind;
         };
       lender = refl;
     }

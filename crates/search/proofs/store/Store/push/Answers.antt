@@ -4,7 +4,7 @@ use mathlib.Core.List.{List, [], _∷_, _++_, map}
 use Prim.Native.Nat.{ℕ, _+_, _<_, _≤_}
 use native.Mathlib.Omega.{arith}
 use lib.ListN.{length, take, set, length-set, length-map}
-use Rattle.std.proofs.shelf.Lists.{take-more-set, map-push, length-take-le}
+use Rattle.std.proofs.shelf.Lists.{take-more-set, map-push, length-take-le, drop-set-lt}
 use Rattle.search.specs.Stored.{standing, room-of}
 use Rattle.search.proofs.store.Store.push.Needs as need
 
@@ -27,6 +27,8 @@ returns g c =
            long = length-set (room-of s) place (c .args .new);
            befores = refl;
            presents = refl;
+           more = omega arith;
+           behind = drop-set-lt (s .before + s .present + (s .next + 1)) (room-of s) place (c .args .new) (omega arith);
          },
          refl,
          pushed);
