@@ -5,3 +5,4 @@ pub mod leg;
 pub mod store;
 pub mod fill;
 pub mod moves;
+pub mod walk;
