@@ -1,3 +1,4 @@
 pub mod Scanning
 pub mod Storing
 pub mod Turns
+pub mod Walking
