@@ -2,3 +2,4 @@ pub mod Scanning
 pub mod Storing
 pub mod Turns
 pub mod Walking
+pub mod Blanks

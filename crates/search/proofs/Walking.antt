@@ -14,7 +14,9 @@ use Rattle.std.proofs.shelf.Tests.{cases-lt, or-parts, eqb-false, eq-eqb, ne-eq
 use Rattle.plant.specs.Meaning.{Meaning}
 use Rattle.plant.specs.Laws.{Lawful}
 use Rattle.legs.specs.Kinds.{Kind, Tells}
-use Rattle.legs.specs.Layers.{Leg, has, layer, layer-before, settings}
+use Rattle.std.specs.declared.option.Option.{Option}
+use Rattle.std.specs.declared.option.Option.the-variants.{Some, None}
+use Rattle.legs.specs.Layers.{Leg, has, In, layer, layer-before, settings}
 use Rattle.legs.specs.Legs.{empty, size, ends, end, sizes, room, most-room, need}
 use Rattle.legs.proofs.Tells.{layer-settings}
 use Rattle.legs.proofs.Ends.{end-is, below-end}
@@ -22,7 +24,7 @@ use Rattle.legs.proofs.Need.{layer-size, room-layers, need-room}
 use Rattle.search.specs.declared.store.Store.{Store}
 use Rattle.search.specs.Stored.{room-of, count, standing, Ready, Kept, Advanced}
 use Rattle.search.specs.Stands.{Stands}
-use Rattle.search.specs.Walked.{present-records, over, Walked}
+use Rattle.search.specs.Walked.{present-records, over, Walked, Hit, At-end}
 use Rattle.search.proofs.Turns.{drop-further}
 
 empty-by-length : (us : List ℕ) → empty us ≡ eqb (length us) 0
@@ -122,3 +124,14 @@ module _ {R : Type 0} (m : Meaning) (lawful : Lawful m) (k : Kind R) (t : Tells 
         used-fits = some;
         behind = refl;
       }
+
+  -- what is found in the present layer of a leg that has ended is found at its end
+  pub hit-at-end : (d : ℕ) (nexts : List R) (s : Store R) (r : Option R) → Stands m k g d nexts s → d ≡ end m g → Hit (k .setting) (present-records s) (g .target) r → At-end m k g r
+  hit-at-end d nexts s (Some r) a e h =
+      (subst (λ n. In r (layer m k g n)) e (subst (λ xs. In r xs) (present-layer d nexts s a) (h .0)), h .1)
+  hit-at-end d nexts s None a e h =
+      ap (λ n. has (settings m g n) (g .target)) (sym e) ∙ ap (λ us. has us (g .target)) (sym (ap (map (k .setting)) (present-layer d nexts s a) ∙ layer-settings m k t g d)) ∙ h
+
+-- the same list, seen from a place on
+pub same-behind : {X : Type 0} (xs ys zs : List X) (n : ℕ) → xs ≡ ys → drop n ys ≡ drop n zs → drop n xs ≡ drop n zs
+same-behind xs ys zs n e h = ap (drop n) e ∙ h

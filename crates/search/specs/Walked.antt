@@ -9,10 +9,11 @@ use Rattle.std.specs.declared.option.Option.{Option}
 use Rattle.std.specs.declared.option.Option.the-variants.{Some, None}
 use Rattle.plant.specs.Meaning.{Meaning}
 use Rattle.legs.specs.Kinds.{Kind}
-use Rattle.legs.specs.Layers.{Leg, has}
+use Rattle.legs.specs.Layers.{Leg, has, In, layer, settings}
 use Rattle.legs.specs.Legs.{ends, end, sizes, expanded, most-room, need}
 use Rattle.search.specs.declared.store.Store.{Store}
 use Rattle.search.specs.declared.walk.Ended.{Ended}
+use Rattle.search.specs.declared.one_leg.Walk.{Walk}
 use Rattle.search.specs.Stored.{room-of, Ready}
 use Rattle.search.specs.Stands.{Stands}
 
@@ -41,3 +42,19 @@ abbrev pub Ran : {R : Type 0} → (R → ℕ) → (List ℕ → Type 0) → Mean
 Ran tells Follows m k g s s′ (Some e) =
     Walked tells Follows m k g s s′ (e .depth) (e .expanded) (e .used) × (e .depth ≡ end m g)
 Ran tells Follows m k g s s′ None = Ready tells Follows s′ × (length (room-of s′) ≡ length (room-of s)) × (length (room-of s) < need m g)
+
+-- a record among these that tells the setting, or none where none does
+abbrev pub Hit : {R : Type 0} → (R → ℕ) → List R → ℕ → Option R → Type 0
+Hit tells rs u (Some r) = In r rs × (tells r ≡ u)
+Hit tells rs u None = has (map tells rs) u ≡ false
+
+-- the target's record in the layer at which the leg ends, or none where that layer does not hold it
+abbrev pub At-end : {R : Type 0} → Meaning → Kind R → Leg → Option R → Type 0
+At-end m k g (Some r) = In r (layer m k g (end m g)) × (k .setting r ≡ g .target)
+At-end m k g None = has (settings m g (end m g)) (g .target) ≡ false
+
+-- the leg has run through to its end, and nothing is changed behind what it needs; or it needs more records
+abbrev pub Run-through : {R : Type 0} → Meaning → Kind R → Leg → List R → List R → Option (Walk R) → Type 0
+Run-through m k g room room′ (Some w) =
+    (w .ended .depth ≡ end m g) × (w .ended .expanded ≡ expanded m g) × (w .ended .used ≡ need m g) × (need m g ≤ length room) × (drop (need m g) room′ ≡ drop (need m g) room) × At-end m k g (w .hit)
+Run-through m k g room room′ None = length room < need m g

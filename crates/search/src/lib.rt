@@ -6,3 +6,4 @@ pub mod store;
 pub mod fill;
 pub mod moves;
 pub mod walk;
+pub mod one_leg;
