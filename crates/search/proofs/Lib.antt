@@ -3,3 +3,4 @@ pub mod Storing
 pub mod Turns
 pub mod Walking
 pub mod Blanks
+pub mod Answering

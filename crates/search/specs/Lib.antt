@@ -5,3 +5,4 @@ pub mod Leg
 pub mod Offered
 pub mod Stands
 pub mod Walked
+pub mod Answered

@@ -7,3 +7,4 @@ pub mod fill;
 pub mod moves;
 pub mod walk;
 pub mod one_leg;
+pub mod leg_search;
