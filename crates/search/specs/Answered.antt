@@ -48,3 +48,7 @@ Refused-by m g records WrongOperation = ⊥
 abbrev pub Searched : {R : Type 0} → Meaning → Kind R → Leg → ℕ → Result (Reached R) Refusal → Type 0
 Searched m k g records (Ok x) = (need m g ≤ records) × (leg-length m g ≡ Some (x .length)) × (x .expanded ≡ expanded m g) × Reaches m k g (x .length) (x .record)
 Searched m k g records (Err e) = Refused-by m g records e
+
+-- every record is zero after a search, and as it was where the call is refused before one
+abbrev pub search-leaves : {R : Type 0} → R → Meaning → Leg → List R → List R
+search-leaves blank m g rs = cond (outside m g || too-high g) rs (replicate (length rs) blank)

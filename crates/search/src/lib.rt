@@ -7,4 +7,5 @@ pub mod fill;
 pub mod moves;
 pub mod walk;
 pub mod one_leg;
+pub mod clear;
 pub mod leg_search;
