@@ -5,9 +5,10 @@ ghost use Rattle.legs.specs.Laws.{Leg-laws};
 ghost use Rattle.legs.specs.PlanLaws.{Measures};
 ghost use Rattle.search.specs.Leg.{leg};
 ghost use Rattle.search.specs.Answered.{search-leaves};
-ghost use Rattle.measure.specs.Measured.{Answers, left-by};
+ghost use Rattle.measure.specs.Measured.{Answers};
 use plant::plant::Plant;
 use plant::refusal::Refusal;
+use search::clear::clear_after;
 use search::clear::clear_all;
 use search::leg_search::Reached;
 use search::leg_search::search_leg;
@@ -40,16 +41,5 @@ pub fn measure<P: Plant>(plant: &P, start: u32, target: u32, bound: u16, records
             clear_after(refusal, records);
             Err(refusal)
         }
-    }
-}
-
-// Zero in every record after a refusal that comes from a search.
-fn clear_after(refusal: Refusal, records: &mut [u32])
-    ensures { λ _. ⌜ now (records .exit) ≡ left-by refusal (now (records .entry)) ⌝ }
-{
-    match refusal {
-        Refusal::Overfull => clear_all(records),
-        Refusal::OutOfReach => clear_all(records),
-        _ => {}
     }
 }

@@ -4,3 +4,4 @@ pub mod Turns
 pub mod Walking
 pub mod Blanks
 pub mod Answering
+pub mod Left

@@ -52,3 +52,15 @@ Searched m k g records (Err e) = Refused-by m g records e
 -- every record is zero after a search, and as it was where the call is refused before one
 abbrev pub search-leaves : {R : Type 0} → R → Meaning → Leg → List R → List R
 search-leaves blank m g rs = cond (outside m g || too-high g) rs (replicate (length rs) blank)
+
+-- what is left after a refusal in records that are to be zero after a search
+abbrev pub left-by : {R : Type 0} → R → Refusal → List R → List R
+left-by blank Overfull rs = replicate (length rs) blank
+left-by blank OutOfReach rs = replicate (length rs) blank
+left-by blank NoSuchOperation rs = rs
+left-by blank TaggedAlready rs = rs
+left-by blank Untagged rs = rs
+left-by blank NoSuchSetting rs = rs
+left-by blank Bound rs = rs
+left-by blank NoList rs = rs
+left-by blank WrongOperation rs = rs

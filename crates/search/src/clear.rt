@@ -1,8 +1,10 @@
-// Zero in every record.
+// Zero in every record, after a search.
 ghost use mathlib.Core.Path.{_≡_};
 ghost use lib.ListN.{length, replicate};
+ghost use Rattle.search.specs.Answered.{left-by};
 use crate::one_leg::blank_front;
 use crate::record::Record;
+use plant::refusal::Refusal;
 
 // Leaves zero in every record.
 pub fn clear_all<R: Record>(records: &mut [R])
@@ -10,4 +12,15 @@ pub fn clear_all<R: Record>(records: &mut [R])
 {
     let all = records.len();
     blank_front(records, all);
+}
+
+// Leaves zero in every record after a refusal that comes from a search, and the records as they were after any other.
+pub fn clear_after<R: Record>(refusal: Refusal, records: &mut [R])
+    ensures { λ _. ⌜ now (records .exit) ≡ left-by (R·Record .blank) refusal (now (records .entry)) ⌝ }
+{
+    match refusal {
+        Refusal::Overfull => clear_all(records),
+        Refusal::OutOfReach => clear_all(records),
+        _ => {}
+    }
 }
