@@ -102,21 +102,22 @@ fn lists_on_bench_a() -> Result<(), Fail> {
 #[test]
 fn an_interlock_bars_its_first_valve() -> Result<(), Fail> {
     let bench = bench_of(&[4, 2], &[lock(0, 1, 1, 1), lock(0, 1, 1, 1)])?;
-    check_steps(
-        &bench,
-        &[
-            (0, 0, Some(1)),
-            (1, 0, Some(2)),
-            (2, 1, Some(1)),
-            (1, 1, Some(0)),
-        ],
-    )?;
-    check_steps(
-        &bench,
-        &[(4, 0, None), (5, 0, None), (6, 1, None), (5, 1, None)],
-    )?;
-    check_steps(&bench, &[(6, 0, Some(7)), (7, 1, Some(6))]).note("neither end is 1")?;
-    check_steps(&bench, &[(1, 2, Some(5)), (5, 3, Some(1))]).note("the second valve")
+    let away = [
+        (0, 0, Some(1)),
+        (1, 0, Some(2)),
+        (2, 1, Some(1)),
+        (1, 1, Some(0)),
+    ];
+    let barred = [(4, 0, None), (5, 0, None), (6, 1, None), (5, 1, None)];
+    let free = [
+        (6, 0, Some(7)),
+        (7, 1, Some(6)),
+        (1, 2, Some(5)),
+        (5, 3, Some(1)),
+    ];
+    check_steps(&bench, &away).note("valve 1 stands at 0")?;
+    check_steps(&bench, &barred).note("valve 1 stands at 1")?;
+    check_steps(&bench, &free).note("position 1 at neither end, and valve 1")
 }
 
 // At the first and at the last setting of the largest bench, each operation.
@@ -128,12 +129,17 @@ fn the_largest_bench() -> Result<(), Fail> {
         let up = 2 * valve;
         let down = 2 * valve + 1;
         let weight = 1u32 << up as u32;
-        check_eq(bench.step(0, up), Some(weight))?;
-        check_eq(bench.step(0, down), None)?;
-        check_eq(bench.step(LAST, up), None)?;
-        check_eq(bench.step(LAST, down), LAST.checked_sub(weight))?;
-        check_eq(bench.reverse(up), down)?;
-        check_eq(bench.reverse(down), up)?;
+        let lower = LAST.checked_sub(weight);
+        check_steps(
+            &bench,
+            &[
+                (0, up, Some(weight)),
+                (0, down, None),
+                (LAST, up, None),
+                (LAST, down, lower),
+            ],
+        )?;
+        check_reverses(&bench, &[(up, down), (down, up)])?;
     }
     check_steps(
         &bench,

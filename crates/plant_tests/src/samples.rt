@@ -97,11 +97,3 @@ pub fn check_size<P: Plant>(plant: &P, settings: u32, operations: u16) -> Result
     check_eq(plant.settings(), settings)?;
     check_eq(plant.operations(), operations)
 }
-
-// A plant of one setting and no operation, as a pair that is too large is.
-pub fn check_alone<P: Plant>(plant: &P) -> Result<(), Fail> {
-    check_size(plant, 1, 0)?;
-    check_steps(plant, &[(0, 0, None), (1, 0, None), (0, 2047, None)])?;
-    check_reverses(plant, &[(0, 0), (1, 1), (2047, 2047)])?;
-    check_estimates(plant, &[(0, 0, 0), (0, 1, 0), (1, 0, 0)])
-}

@@ -18,43 +18,59 @@ use tagged::tagged::questions::TaggedPlant;
 use track::track::questions::TrackPlant;
 use valves::bench::questions::BenchPlant;
 
+// Operations, and whether each is tagged.
+fn check_tags<P: Plant>(plant: &Tagged<P>, rows: &[(u16, bool)]) -> Result<(), Fail> {
+    for row in rows {
+        let (operation, tagged) = *row;
+        check_eq(plant.is_tagged(operation), tagged).note(format_args!("operation {operation}"))?;
+    }
+    Ok(())
+}
+
 // A tag covers an operation and its reverse, and is taken off by either.
 #[test]
 fn an_operation_and_its_reverse() -> Result<(), Fail> {
     let mut plant = Tagged::new(bench_a()?);
     check_steps(&plant, &[(0, 2, Some(3)), (3, 3, Some(0)), (0, 0, Some(1))])?;
     plant.tag(3)?;
-    check(plant.is_tagged(2))?;
-    check(plant.is_tagged(3))?;
-    check(!plant.is_tagged(0))?;
+    check_tags(
+        &plant,
+        &[(0, false), (1, false), (2, true), (3, true), (4, false)],
+    )?;
     check_steps(
         &plant,
         &[(0, 2, None), (3, 3, None), (0, 0, Some(1)), (6, 0, None)],
     )?;
-    check_size(&plant, 6, 4).note("all else is as below")?;
-    check_reverses(&plant, &[(2, 3), (3, 2), (4, 4)])?;
-    check_estimates(&plant, &[(0, 3, 1), (0, 5, 3), (0, 6, 0)])?;
     check_steps(plant.below(), &[(0, 2, Some(3))]).note("the plant below has it")?;
     plant.untag(2)?;
-    check(!plant.is_tagged(3))?;
+    check_tags(&plant, &[(2, false), (3, false)])?;
     check_steps(&plant, &[(0, 2, Some(3)), (3, 3, Some(0))])
+}
+
+#[test]
+fn all_else_is_as_below() -> Result<(), Fail> {
+    let mut plant = Tagged::new(bench_a()?);
+    plant.tag(2)?;
+    check_size(&plant, 6, 4)?;
+    check_reverses(&plant, &[(2, 3), (3, 2), (4, 4)])?;
+    check_estimates(&plant, &[(0, 3, 1), (0, 5, 3), (0, 6, 0)])
 }
 
 // Refused calls leave the tags as they were.
 #[test]
 fn refused_tags() -> Result<(), Fail> {
     let mut plant = Tagged::new(bench_a()?);
-    check_eq(plant.untag(0), Err(Refusal::Untagged))?;
-    check_eq(plant.tag(4), Err(Refusal::NoSuchOperation))?;
-    check_eq(plant.untag(4), Err(Refusal::NoSuchOperation))?;
-    check_eq(plant.tag(65_535), Err(Refusal::NoSuchOperation))?;
-    check(!plant.is_tagged(4))?;
     plant.tag(0)?;
     check_eq(plant.tag(0), Err(Refusal::TaggedAlready))?;
     check_eq(plant.tag(1), Err(Refusal::TaggedAlready))?;
+    check_eq(plant.tag(4), Err(Refusal::NoSuchOperation))?;
+    check_eq(plant.tag(65_535), Err(Refusal::NoSuchOperation))?;
     check_eq(plant.untag(2), Err(Refusal::Untagged))?;
-    check(plant.is_tagged(0) && plant.is_tagged(1))?;
-    check(!plant.is_tagged(2) && !plant.is_tagged(3))
+    check_eq(plant.untag(4), Err(Refusal::NoSuchOperation))?;
+    check_tags(
+        &plant,
+        &[(0, true), (1, true), (2, false), (3, false), (4, false)],
+    )
 }
 
 // On a track an operation is its own reverse, and a tag covers it alone.

@@ -16,25 +16,30 @@ use track::link::TrackFaultPartialEq;
 use track::track::Track;
 use track::track::questions::TrackPlant;
 
-fn check_fault(stations: u16, links: &[Link], fault: TrackFault) -> Result<(), Fail> {
-    check_eq(Track::new(stations, links).err(), Some(fault))
+// The number of stations, the links, and the first fault of the two.
+type Row<'a> = (u16, &'a [Link], TrackFault);
+
+fn check_faults(rows: &[Row<'_>]) -> Result<(), Fail> {
+    for row in rows {
+        let (stations, links, fault) = *row;
+        check_eq(Track::new(stations, links).err(), Some(fault))?;
+    }
+    Ok(())
 }
 
 #[test]
 fn links_lead_both_ways() -> Result<(), Fail> {
     let track = ring()?;
     check_size(&track, 5, 5)?;
-    check_steps(
-        &track,
-        &[
-            (0, 0, Some(1)),
-            (1, 0, Some(0)),
-            (2, 4, Some(4)),
-            (4, 4, Some(2)),
-        ],
-    )?;
-    check_steps(&track, &[(2, 0, None), (0, 4, None)]).note("not on the link")?;
-    check_steps(&track, &[(5, 0, None), (0, 5, None)]).note("out of range")?;
+    let along = [
+        (0, 0, Some(1)),
+        (1, 0, Some(0)),
+        (2, 4, Some(4)),
+        (4, 4, Some(2)),
+    ];
+    let none = [(2, 0, None), (0, 4, None), (5, 0, None), (0, 5, None)];
+    check_steps(&track, &along)?;
+    check_steps(&track, &none).note("not on the link, or out of range")?;
     check_reverses(&track, &[(0, 0), (4, 4), (5, 5)])?;
     check_estimates(
         &track,
@@ -79,20 +84,28 @@ fn the_smallest_and_the_largest_track() -> Result<(), Fail> {
 #[test]
 fn data_that_make_no_track() -> Result<(), Fail> {
     let good = link(0, 1);
-    check_fault(0, &[], TrackFault::Stations)?;
-    check_fault(513, &[], TrackFault::Stations)?;
-    check_fault(2, &[good; 1025], TrackFault::Links)?;
-    check_fault(2, &[good, link(2, 1)], TrackFault::First(1))?;
-    check_fault(2, &[good, good, link(1, 2)], TrackFault::Second(2))?;
-    check_fault(2, &[link(1, 1)], TrackFault::Same(0))
+    check_faults(
+        &[
+            (0, &[], TrackFault::Stations),
+            (513, &[], TrackFault::Stations),
+            (2, &[good; 1025], TrackFault::Links),
+            (2, &[good, link(2, 1)], TrackFault::First(1)),
+            (2, &[good, good, link(1, 2)], TrackFault::Second(2)),
+            (2, &[link(1, 1)], TrackFault::Same(0)),
+        ],
+    )
 }
 
 // Where several faults are there, the one that is checked first is named.
 #[test]
 fn the_first_fault() -> Result<(), Fail> {
     let wrong = link(9, 9);
-    check_fault(0, &[wrong; 1025], TrackFault::Stations)?;
-    check_fault(2, &[wrong; 1025], TrackFault::Links)?;
-    check_fault(2, &[wrong], TrackFault::First(0))?;
-    check_fault(2, &[link(0, 9), wrong], TrackFault::Second(0))
+    check_faults(
+        &[
+            (0, &[wrong; 1025], TrackFault::Stations),
+            (2, &[wrong; 1025], TrackFault::Links),
+            (2, &[wrong], TrackFault::First(0)),
+            (2, &[link(0, 9), wrong], TrackFault::Second(0)),
+        ],
+    )
 }
