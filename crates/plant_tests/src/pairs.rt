@@ -1,8 +1,8 @@
 // Pairs: both sides of one, pairs of pairs, and pairs that are too large.
+use crate::samples::Examples;
 use crate::samples::bench_a;
 use crate::samples::bench_and_ring;
-use crate::samples::check_estimates;
-use crate::samples::check_reverses;
+use crate::samples::check_examples;
 use crate::samples::check_size;
 use crate::samples::check_steps;
 use crate::samples::largest_bench;
@@ -18,37 +18,49 @@ use std::test::*;
 use track::track::questions::TrackPlant;
 use valves::bench::questions::BenchPlant;
 
-// The setting of the pair is the bench's plus 6 times the ring's, and the ring's operations follow the bench's.
+// The setting of the pair is the bench's plus 6 times the ring's, and the ring's operations follow the bench's. The last
+// rows are out of range.
 #[test]
 fn both_sides_of_a_pair() -> Result<(), Fail> {
     let pair = bench_and_ring()?;
-    check(!pair.too_large())?;
-    check_size(&pair, 30, 9)?;
     let first = [
         (0, 0, Some(1)),
         (1, 0, None),
         (29, 3, Some(26)),
         (7, 2, Some(10)),
+        (30, 0, None),
     ];
-    let second = [
-        (0, 4, Some(6)),
-        (16, 8, Some(28)),
-        (29, 8, Some(17)),
-        (0, 8, None),
-    ];
+    let examples = Examples {
+        settings: 30,
+        operations: 9,
+        steps: &[
+            (0, 4, Some(6)),
+            (16, 8, Some(28)),
+            (29, 8, Some(17)),
+            (0, 8, None),
+            (30, 4, None),
+            (0, 9, None),
+        ],
+        reverses: &[(0, 1), (3, 2), (4, 4), (8, 8), (9, 9)],
+        estimates: &[
+            (0, 26, 3),
+            (26, 0, 3),
+            (0, 24, 1),
+            (0, 2, 2),
+            (7, 7, 0),
+            (0, 30, 0),
+            (30, 0, 0),
+        ],
+    };
+    check(!pair.too_large())?;
     check_steps(&pair, &first)?;
-    check_steps(&pair, &second)?;
-    check_steps(&pair, &[(30, 0, None), (30, 4, None), (0, 9, None)]).note("out of range")?;
-    check_reverses(&pair, &[(0, 1), (3, 2), (4, 4), (8, 8), (9, 9)])?;
+    check_examples(&pair, examples)?;
     check_eq(follow(&pair, 0, &[0, 4, 2, 5, 0, 8, 3]), Some(26))
 }
 
 #[test]
-fn estimates_and_parts_of_a_pair() -> Result<(), Fail> {
+fn parts_of_a_pair() -> Result<(), Fail> {
     let pair = bench_and_ring()?;
-    let within = [(0, 26, 3), (26, 0, 3), (0, 24, 1), (0, 2, 2), (7, 7, 0)];
-    check_estimates(&pair, &within)?;
-    check_estimates(&pair, &[(0, 30, 0), (30, 0, 0)]).note("out of range")?;
     check_eq(pair.split(26), Some((2, 4)))?;
     check_eq(pair.split(29), Some((5, 4)))?;
     check_eq(pair.split(30), None)?;
@@ -58,17 +70,18 @@ fn estimates_and_parts_of_a_pair() -> Result<(), Fail> {
 
 // Bench A and two rings are the same plant, whichever two of them are paired first.
 fn check_bench_and_two_rings<P: Plant>(plant: &P) -> Result<(), Fail> {
-    check_size(plant, 150, 14)?;
-    check_steps(
-        plant,
-        &[
+    let examples = Examples {
+        settings: 150,
+        operations: 14,
+        steps: &[
             (149, 13, Some(89)),
             (149, 8, Some(137)),
             (149, 3, Some(146)),
         ],
-    )?;
-    check_estimates(plant, &[(0, 149, 5), (0, 146, 4), (0, 150, 0)])?;
-    check_reverses(plant, &[(2, 3), (13, 13), (14, 14)])
+        reverses: &[(2, 3), (13, 13), (14, 14)],
+        estimates: &[(0, 149, 5), (0, 146, 4), (0, 150, 0)],
+    };
+    check_examples(plant, examples)
 }
 
 #[test]
@@ -83,11 +96,15 @@ fn pairs_of_pairs() -> Result<(), Fail> {
 
 // A pair that is too large has one setting and no operation.
 fn check_too_large<F: Plant, S: Plant>(pair: &Pair<F, S>) -> Result<(), Fail> {
+    let examples = Examples {
+        settings: 1,
+        operations: 0,
+        steps: &[(0, 0, None), (1, 0, None), (0, 2047, None)],
+        reverses: &[(0, 0), (1, 1), (2047, 2047)],
+        estimates: &[(0, 0, 0), (0, 1, 0), (1, 0, 0)],
+    };
     check(pair.too_large())?;
-    check_size(pair, 1, 0)?;
-    check_steps(pair, &[(0, 0, None), (1, 0, None), (0, 2047, None)])?;
-    check_reverses(pair, &[(0, 0), (1, 1), (2047, 2047)])?;
-    check_estimates(pair, &[(0, 0, 0), (0, 1, 0), (1, 0, 0)])?;
+    check_examples(pair, examples)?;
     check_eq(pair.split(0), Some((0, 0)))?;
     check_eq(pair.split(1), None)
 }

@@ -97,3 +97,20 @@ pub fn check_size<P: Plant>(plant: &P, settings: u32, operations: u16) -> Result
     check_eq(plant.settings(), settings)?;
     check_eq(plant.operations(), operations)
 }
+
+// Examples of a plant: its size, and rows of steps, reverses and estimates.
+#[derive(Clone, Copy)]
+pub struct Examples<'a> {
+    pub settings: u32,
+    pub operations: u16,
+    pub steps: &'a [Row],
+    pub reverses: &'a [(u16, u16)],
+    pub estimates: &'a [(u32, u32, u16)],
+}
+
+pub fn check_examples<P: Plant>(plant: &P, examples: Examples<'_>) -> Result<(), Fail> {
+    check_size(plant, examples.settings, examples.operations)?;
+    check_steps(plant, examples.steps)?;
+    check_reverses(plant, examples.reverses)?;
+    check_estimates(plant, examples.estimates)
+}

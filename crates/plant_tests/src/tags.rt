@@ -1,8 +1,8 @@
 // Tags: what they take out, what is refused, and tags below and above other plants.
+use crate::samples::Examples;
 use crate::samples::bench_a;
 use crate::samples::bench_and_ring;
-use crate::samples::check_estimates;
-use crate::samples::check_reverses;
+use crate::samples::check_examples;
 use crate::samples::check_size;
 use crate::samples::check_steps;
 use crate::samples::ring;
@@ -27,33 +27,29 @@ fn check_tags<P: Plant>(plant: &Tagged<P>, rows: &[(u16, bool)]) -> Result<(), F
     Ok(())
 }
 
-// A tag covers an operation and its reverse, and is taken off by either.
+// A tag covers an operation and its reverse, and is taken off by either. All else is as below.
 #[test]
 fn an_operation_and_its_reverse() -> Result<(), Fail> {
     let mut plant = Tagged::new(bench_a()?);
-    check_steps(&plant, &[(0, 2, Some(3)), (3, 3, Some(0)), (0, 0, Some(1))])?;
+    let free = [(0, 2, Some(3)), (3, 3, Some(0)), (0, 0, Some(1))];
+    let examples = Examples {
+        settings: 6,
+        operations: 4,
+        steps: &[(0, 2, None), (3, 3, None), (0, 0, Some(1)), (6, 0, None)],
+        reverses: &[(2, 3), (3, 2), (4, 4)],
+        estimates: &[(0, 3, 1), (0, 5, 3), (0, 6, 0)],
+    };
+    check_steps(&plant, &free)?;
     plant.tag(3)?;
     check_tags(
         &plant,
         &[(0, false), (1, false), (2, true), (3, true), (4, false)],
     )?;
-    check_steps(
-        &plant,
-        &[(0, 2, None), (3, 3, None), (0, 0, Some(1)), (6, 0, None)],
-    )?;
-    check_steps(plant.below(), &[(0, 2, Some(3))]).note("the plant below has it")?;
+    check_examples(&plant, examples)?;
+    check_steps(plant.below(), &free)?;
     plant.untag(2)?;
     check_tags(&plant, &[(2, false), (3, false)])?;
-    check_steps(&plant, &[(0, 2, Some(3)), (3, 3, Some(0))])
-}
-
-#[test]
-fn all_else_is_as_below() -> Result<(), Fail> {
-    let mut plant = Tagged::new(bench_a()?);
-    plant.tag(2)?;
-    check_size(&plant, 6, 4)?;
-    check_reverses(&plant, &[(2, 3), (3, 2), (4, 4)])?;
-    check_estimates(&plant, &[(0, 3, 1), (0, 5, 3), (0, 6, 0)])
+    check_steps(&plant, &free)
 }
 
 // Refused calls leave the tags as they were.

@@ -1,6 +1,6 @@
 // Tracks: links from both ends, and the data that make no track.
-use crate::samples::check_estimates;
-use crate::samples::check_reverses;
+use crate::samples::Examples;
+use crate::samples::check_examples;
 use crate::samples::check_size;
 use crate::samples::check_steps;
 use crate::samples::link;
@@ -27,23 +27,22 @@ fn check_faults(rows: &[Row<'_>]) -> Result<(), Fail> {
     Ok(())
 }
 
+// Among the steps are stations that are not on the link, and at the end what is out of range.
 #[test]
 fn links_lead_both_ways() -> Result<(), Fail> {
     let track = ring()?;
-    check_size(&track, 5, 5)?;
     let along = [
         (0, 0, Some(1)),
         (1, 0, Some(0)),
         (2, 4, Some(4)),
         (4, 4, Some(2)),
     ];
-    let none = [(2, 0, None), (0, 4, None), (5, 0, None), (0, 5, None)];
-    check_steps(&track, &along)?;
-    check_steps(&track, &none).note("not on the link, or out of range")?;
-    check_reverses(&track, &[(0, 0), (4, 4), (5, 5)])?;
-    check_estimates(
-        &track,
-        &[
+    let examples = Examples {
+        settings: 5,
+        operations: 5,
+        steps: &[(2, 0, None), (0, 4, None), (5, 0, None), (0, 5, None)],
+        reverses: &[(0, 0), (4, 4), (5, 5)],
+        estimates: &[
             (0, 0, 0),
             (0, 1, 1),
             (0, 4, 1),
@@ -51,7 +50,9 @@ fn links_lead_both_ways() -> Result<(), Fail> {
             (0, 5, 0),
             (5, 0, 0),
         ],
-    )?;
+    };
+    check_steps(&track, &along)?;
+    check_examples(&track, examples)?;
     check_eq(track.link(4), Some(link(2, 4)))?;
     check_eq(track.link(5), None)
 }
