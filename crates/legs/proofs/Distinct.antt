@@ -10,13 +10,9 @@ use lib.ListN.{length}
 use Rattle.std.proofs.shelf.Tests.{cases-bool, cases-lt, eqb-true, both-ways, or-from}
 use Rattle.legs.specs.Kinds.{plain}
 use Rattle.legs.specs.Layers.{has, kept}
+use Rattle.legs.specs.Laws.{Distinct}
 use Rattle.legs.proofs.Members.{has-here, has-later, has-cases, has-append}
 use Rattle.legs.proofs.Kept.{kept-parts}
-
--- no number stands in the list twice
-abbrev pub Distinct : List ℕ → Type 0
-Distinct [] = Unit {0}
-Distinct (u ∷ us) = (has us u ≡ false) × Distinct us
 
 -- what does not hold is false
 pub has-not : (us : List ℕ) (u : ℕ) → (has us u ≡ true → ⊥) → has us u ≡ false

@@ -12,9 +12,9 @@ use Rattle.plant.specs.Laws.{Lawful}
 use Rattle.legs.specs.Kinds.{plain}
 use Rattle.legs.specs.Layers.{Leg, has, fits, arrivals, grown, settings}
 use Rattle.legs.specs.Legs.{sizes}
-use Rattle.legs.specs.Laws.{Holds}
+use Rattle.legs.specs.Laws.{Holds, Distinct}
 use Rattle.legs.proofs.Layers.{layer-first, layer-next, met-layer}
-use Rattle.legs.proofs.Distinct.{Distinct, distinct-append, distinct-kept, pigeonhole}
+use Rattle.legs.proofs.Distinct.{distinct-append, distinct-kept, pigeonhole}
 
 module _ (m : Meaning) (g : Leg) where
   pub layer-distinct : (d : ℕ) → Distinct (settings m g d)

@@ -2,7 +2,7 @@
 ghost use mathlib.Core.Path.{_≡_};
 ghost use Prim.Native.Nat.{_<_};
 ghost use lib.ListN.{getD};
-ghost use Rattle.valves.specs.Positions.{positions as at-setting};
+ghost use Rattle.valves.specs.Positions.{positions as at-setting, Numbered};
 ghost use Rattle.valves.specs.Interlocks.{barred as any-bars, applies-to};
 ghost use Rattle.valves.specs.Of.{counts-of, interlocks-of, position-of};
 use crate::bench::Bench;
@@ -11,6 +11,13 @@ use crate::interlock::Interlock;
 impl Bench {
     // The position of the valve at the setting; none where there is no such setting or no such valve.
     pub fn position(&self, setting: u32, valve: u8) -> Option<u8>
+        ensures exact { λ r. ⌜ r ≡ position-of (counts-of (now (self .entry))) setting valve ⌝ }
+        ensures numbered { λ _. ⌜ Numbered (counts-of (now (self .entry))) ⌝ }
+    {
+        self.position_in(setting, valve)
+    }
+
+    fn position_in(&self, setting: u32, valve: u8) -> Option<u8>
         ensures { λ r. ⌜ r ≡ position-of (counts-of (now (self .entry))) setting valve ⌝ }
     {
         if setting >= self.settings {
