@@ -23,16 +23,18 @@ pub fn word(first: u8, second: u8) -> u16
     first as u16 + 256 * second as u16
 }
 
-// The number whose low and high half are these.
-pub fn double(half: u16, high: u16) -> u32
-    ensures { λ r. ⌜ r ≡ half + 65536 * high ⌝ }
+// The number in four bytes.
+pub fn double(bytes: [u8; 4]) -> u32
+    ensures { λ r. ⌜ r ≡ value bytes ⌝ }
 {
-    half as u32 + 65536 * high as u32
+    let [a, b, c, d] = bytes;
+    word(a, b) as u32 + 65536 * word(c, d) as u32
 }
 
-// The number whose low and high half are these.
-pub fn quad(half: u32, high: u32) -> u64
-    ensures { λ r. ⌜ r ≡ half + 4294967296 * high ⌝ }
+// The number in eight bytes.
+pub fn quad(bytes: [u8; 8]) -> u64
+    ensures { λ r. ⌜ r ≡ value bytes ⌝ }
 {
-    half as u64 + 4294967296 * high as u64
+    let [a, b, c, d, e, f, g, h] = bytes;
+    double([a, b, c, d]) as u64 + 4294967296 * double([e, f, g, h]) as u64
 }

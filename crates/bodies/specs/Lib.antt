@@ -1,0 +1,2 @@
+pub mod StepsRule
+pub mod StepsRead

@@ -1,0 +1,2 @@
+// A steps body taken apart.
+ghost use mathlib.Core.Path.{_≡_};
