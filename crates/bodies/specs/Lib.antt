@@ -1,2 +1,3 @@
 pub mod StepsRule
 pub mod StepsRead
+pub mod JobRule
