@@ -7,7 +7,7 @@ use native.Mathlib.Omega.{arith}
 use lib.ListN.{length, getD}
 use lib.Dec.{ltb}
 use Rattle.std.specs.declared.option.Option.the-variants.{Some, None}
-use Rattle.std.proofs.shelf.Tests.{and-parts, ltb-true}
+use Rattle.std.proofs.shelf.Tests.{and-parts, and-from, ltb-true, lt-ltb}
 use Rattle.numbers.specs.Low.{low, value, Bytes}
 use Rattle.numbers.proofs.Laws.{value-low, low-value}
 use Rattle.sheet.specs.Steps.{all-below}
@@ -54,3 +54,13 @@ words-pairs (x ∷ (y ∷ zs)) b h =
     let v : low 2 (value (x ∷ (y ∷ []))) ≡ x ∷ (y ∷ []) = low-value (x ∷ (y ∷ [])) (b .0, (b .1 .0, tt)) in
     let r : words (pairs zs) ≡ zs = words-pairs zs (b .1 .1) (omega arith) in
     ap (λ n. n ++ words (pairs zs)) v ∙ ap (λ t. x ∷ (y ∷ t)) r
+
+-- numbers in pairs of bytes fit 16 bits
+pub pairs-below : (xs : List ℕ) → Bytes xs → all-below 65536 (pairs xs) ≡ true
+pairs-below [] b = refl
+pairs-below (x ∷ []) b = refl
+pairs-below (x ∷ (y ∷ zs)) b =
+    let f : x < 256 = b .0 in
+    let g : y < 256 = b .1 .0 in
+    let l : value (x ∷ (y ∷ [])) < 65536 = omega arith in
+    and-from (ltb (value (x ∷ (y ∷ []))) 65536) (all-below 65536 (pairs zs)) (lt-ltb (value (x ∷ (y ∷ []))) 65536 l) (pairs-below zs (b .1 .1))

@@ -21,14 +21,19 @@ listed a = eqb a 0
 abbrev pub unlisted : ℕ → Bool
 unlisted a = leb 4 a && leb a 7
 
--- length, answer, length under an answer without a list, zero, count under such an answer
+-- a body of n bytes with this answer, zero and count: length, answer, length under an answer without a list, zero, count
+-- under such an answer
+abbrev pub fields-fault : ℕ → ℕ → ℕ → ℕ → Option StepsFault
+fields-fault n a z c =
+    cond (not (steps-length n)) (Some Length)
+    (cond (not (listed a) && not (unlisted a)) (Some Answer)
+    (cond (not (listed a) && ltb 10 n) (Some Length)
+    (cond (not (eqb z 0)) (Some Zero)
+    (cond (not (listed a) && not (eqb c 0)) (Some Count) None))))
+
+-- answer, 0, count in 64 bits, operations
 abbrev pub steps-fault : List ℕ → Option StepsFault
-steps-fault bs =
-    cond (not (steps-length (length bs))) (Some Length)
-    (cond (not (listed (getD bs 0 0)) && not (unlisted (getD bs 0 0))) (Some Answer)
-    (cond (not (listed (getD bs 0 0)) && ltb 10 (length bs)) (Some Length)
-    (cond (not (eqb (getD bs 1 0) 0)) (Some Zero)
-    (cond (not (listed (getD bs 0 0)) && not (eqb (value (take 8 (drop 2 bs))) 0)) (Some Count) None))))
+steps-fault bs = fields-fault (length bs) (getD bs 0 0) (getD bs 1 0) (value (take 8 (drop 2 bs)))
 
 -- the byte of the body that a fault names: the first one of the field
 abbrev pub steps-byte : StepsFault → ℕ

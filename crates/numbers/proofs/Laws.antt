@@ -3,7 +3,7 @@ use mathlib.Core.Path.{_≡_, refl, sym, _∙_, ap}
 use mathlib.Core.List.{List, [], _∷_, _++_, append-assoc, append-nil}
 use Prim.Native.Nat.{ℕ, zero, suc, _+_, _-_, _*_, _/_, _%_, _<_, _≤_}
 use native.Mathlib.Omega.{arith}
-use lib.ListN.{length, take, set}
+use lib.ListN.{length, take, drop, getD, set}
 use lib.Seq.{take-all}
 use Rattle.std.proofs.shelf.Lists.{take-more-set}
 use Rattle.numbers.specs.Low.{low, value, reach, Bytes}
@@ -52,3 +52,18 @@ low-all xs i m left n h l e =
     let s : m - i ≡ 0 = omega arith in
     let f : take i xs ++ low 0 left ≡ low m n = ap (λ k. take i xs ++ low k left) (sym s) ∙ e in
     sym (take-all i xs (omega arith)) ∙ (sym (append-nil (take i xs)) ∙ f)
+
+-- what is a byte at each place is so throughout, and in every part
+pub bytes-from : (bs : List ℕ) → ((i : ℕ) → getD bs i 0 < 256) → Bytes bs
+bytes-from [] h = tt
+bytes-from (b ∷ bs) h = (h 0, bytes-from bs (λ i. h (suc i)))
+
+pub bytes-take : (n : ℕ) (bs : List ℕ) → Bytes bs → Bytes (take n bs)
+bytes-take zero bs h = tt
+bytes-take (suc n) [] h = tt
+bytes-take (suc n) (b ∷ bs) h = (h .0, bytes-take n bs (h .1))
+
+pub bytes-drop : (n : ℕ) (bs : List ℕ) → Bytes bs → Bytes (drop n bs)
+bytes-drop zero bs h = h
+bytes-drop (suc n) [] h = tt
+bytes-drop (suc n) (b ∷ bs) h = bytes-drop n bs (h .1)
