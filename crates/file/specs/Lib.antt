@@ -1,0 +1,4 @@
+pub mod Kinds
+pub mod Contents
+pub mod Parts
+pub mod Read

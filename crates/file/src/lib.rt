@@ -1,0 +1,3 @@
+// Files: read as entries, each a part of the file with its place, or refused with the first fault.
+pub mod kind;
+mod rows;
