@@ -1,1 +1,3 @@
 pub mod RowByRow
+pub mod PartByPart
+pub mod CheckByCheck

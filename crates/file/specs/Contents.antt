@@ -1,6 +1,6 @@
 -- The contents of a file: rows of four bytes, kind, 0, body length in 16 bits, taken one after another. Assumes nothing.
 use mathlib.Core.Bool.{Bool, not, cond}
-use mathlib.Core.List.{List, [], _∷_}
+use mathlib.Core.List.{List}
 use Prim.Native.Nat.{ℕ, zero, suc, _+_}
 use lib.Dec.{eqb}
 use lib.ListN.{getD, take, drop}
@@ -34,8 +34,3 @@ rows-fault r (suc e) i rs =
 abbrev pub rows-length : ℕ → List ℕ → ℕ
 rows-length zero rs = 0
 rows-length (suc e) rs = row-length rs + rows-length e (drop 4 rs)
-
--- the kind bytes of e rows
-abbrev pub row-kinds : ℕ → List ℕ → List ℕ
-row-kinds zero rs = []
-row-kinds (suc e) rs = row-kind rs ∷ row-kinds e (drop 4 rs)

@@ -1,7 +1,7 @@
 -- The entries of a file as parts of it, and the first fault of their bodies. Assumes nothing.
 use mathlib.Core.Bool.{Bool, _&&_}
 use mathlib.Core.List.{List, [], _∷_}
-use Prim.Native.Nat.{ℕ, zero, suc, _+_}
+use Prim.Native.Nat.{ℕ, zero, suc, _+_, _*_}
 use lib.Dec.{ltb}
 use lib.ListN.{getD, take, drop}
 use Rattle.std.specs.Options.{mapped}
@@ -31,20 +31,20 @@ parts-from zero rs p bs = []
 parts-from (suc e) rs p bs =
     part (row-kind rs) p (take (row-length rs) bs) ∷ parts-from e (drop 4 rs) (p + row-length rs) (drop (row-length rs) bs)
 
--- entry k is before entry i and is a bench or a track
+-- entry k is before entry i and is a bench or a track, by the rows of all entries
 abbrev pub plant-before : List ℕ → ℕ → ℕ → Bool
-plant-before kinds i k = ltb k i && is-plant (kind-of (getD kinds k 0))
+plant-before rs i k = ltb k i && is-plant (kind-of (row-kind (drop (4 * k) rs)))
 
--- the first fault of entry i, where these are the kinds of all entries
+-- the first fault of entry i, where these are the rows of all entries
 abbrev pub kind-fault : List ℕ → ℕ → Option Kind → ℕ → List ℕ → Option BodyFault
-kind-fault kinds i None p bs = None
-kind-fault kinds i (Some Valves) p bs = None
-kind-fault kinds i (Some Track) p bs = None
-kind-fault kinds i (Some Job) p bs = mapped (body.Job p) (job-fault (plant-before kinds i (getD bs 0 0)) bs)
-kind-fault kinds i (Some Steps) p bs = mapped (body.Steps p) (steps-fault bs)
+kind-fault rs i None p bs = None
+kind-fault rs i (Some Valves) p bs = None
+kind-fault rs i (Some Track) p bs = None
+kind-fault rs i (Some Job) p bs = mapped (body.Job p) (job-fault (plant-before rs i (getD bs 0 0)) bs)
+kind-fault rs i (Some Steps) p bs = mapped (body.Steps p) (steps-fault bs)
 
 abbrev pub part-fault : List ℕ → ℕ → Part → Option BodyFault
-part-fault kinds i e = kind-fault kinds i (kind-of (e .kind)) (e .place) (e .bytes)
+part-fault rs i e = kind-fault rs i (kind-of (e .kind)) (e .place) (e .bytes)
 
 abbrev pub first-fault : Option BodyFault → Option BodyFault → Option BodyFault
 first-fault None g = g
@@ -52,5 +52,5 @@ first-fault (Some f) g = Some f
 
 -- the first fault of these entries, of which the first is entry i
 abbrev pub parts-fault : List ℕ → ℕ → List Part → Option BodyFault
-parts-fault kinds i [] = None
-parts-fault kinds i (e ∷ es) = first-fault (part-fault kinds i e) (parts-fault kinds (suc i) es)
+parts-fault rs i [] = None
+parts-fault rs i (e ∷ es) = first-fault (part-fault rs i e) (parts-fault rs (suc i) es)

@@ -15,7 +15,7 @@ use Rattle.faults.specs.declared.fault.ContentsFault.the-variants as contents
 use Rattle.faults.specs.declared.fault.FileFault.{FileFault}
 use Rattle.faults.specs.declared.fault.FileFault.the-variants.{TooShort, TooLong, Contents, Body}
 use Rattle.file.specs.declared.kind.Reader.{Reader}
-use Rattle.file.specs.Contents.{rows-fault, rows-length, row-kinds}
+use Rattle.file.specs.Contents.{rows-fault, rows-length}
 use Rattle.file.specs.Parts.{Part, parts-from, parts-fault}
 
 -- how many entries there are, and where the rows and the bodies begin
@@ -32,15 +32,12 @@ contents-end file = 2 + 4 * entries file
 abbrev pub told-length : List ℕ → ℕ
 told-length file = contents-end file + rows-length (entries file) (rows file)
 
-abbrev pub kinds : List ℕ → List ℕ
-kinds file = row-kinds (entries file) (rows file)
-
 -- the entries
 abbrev pub parts : List ℕ → List Part
 parts file = parts-from (entries file) (rows file) (contents-end file) (drop (contents-end file) file)
 
 abbrev pub bodies-fault : List ℕ → Option BodyFault
-bodies-fault file = parts-fault (kinds file) 0 (parts file)
+bodies-fault file = parts-fault (rows file) 0 (parts file)
 
 -- the first fault of contents, or else a later one
 abbrev pub contents-then : Option ContentsFault → Option FileFault → Option FileFault

@@ -1,3 +1,5 @@
 // Files: read as entries, each a part of the file with its place, or refused with the first fault.
 pub mod kind;
 mod rows;
+mod bodies_of;
+pub mod read;

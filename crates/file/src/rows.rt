@@ -31,7 +31,8 @@ pub(crate) fn rows_fault(reader: Reader, entries: u8, rows: &[u8]) -> Option<Con
 // How many bytes the bodies of so many rows take together.
 pub(crate) fn rows_length(entries: u8, rows: &[u8]) -> usize
     requires { ⌜ 4 * entries ≤ length (now rows) ⌝ }
-    ensures { λ r. ⌜ r ≡ rows-length entries (now (rows .entry)) ⌝ }
+    ensures sum { λ r. ⌜ r ≡ rows-length entries (now (rows .entry)) ⌝ }
+    ensures few { λ r. ⌜ r ≤ 65535 * entries ⌝ }
 {
     let mut rest = rows;
     let mut total = 0usize;

@@ -14,4 +14,7 @@ loop-row-again c =
      omega arith)
 
 pub returns : need.returns
-returns c = length-done (c .args .entries) (c .loop-row .-row) (c .loop-row .rest .now) (c .loop-row .total) _ (c .loop-row-test .left) (c .loop-row .inv .0)
+returns c = record {
+    sum = length-done (c .args .entries) (c .loop-row .-row) (c .loop-row .rest .now) (c .loop-row .total) _ (c .loop-row-test .left) (c .loop-row .inv .0);
+    few = omega arith
+  }
