@@ -2,3 +2,4 @@ pub mod Kinds
 pub mod Contents
 pub mod Parts
 pub mod Read
+pub mod Files

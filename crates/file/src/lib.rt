@@ -3,3 +3,6 @@ pub mod kind;
 mod rows;
 mod bodies_of;
 pub mod read;
+pub mod file;
+pub mod open;
+pub mod entry;
