@@ -1,3 +1,5 @@
 pub mod RowByRow
 pub mod PartByPart
 pub mod CheckByCheck
+pub mod Finding
+pub mod Acceptance

@@ -1,11 +1,16 @@
 -- What a file that was read tells. Assumes nothing.
-use mathlib.Core.List.{List}
-use Prim.Native.Nat.{ℕ}
+use mathlib.Core.List.{List, [], _∷_}
+use Prim.Native.Nat.{ℕ, zero, suc}
 use denote.Ref.{now}
 use Rattle.std.specs.declared.option.Option.{Option}
+use Rattle.std.specs.declared.option.Option.the-variants.{Some, None}
 use Rattle.faults.specs.declared.fault.FileFault.{FileFault}
 use Rattle.file.specs.declared.kind.Reader.{Reader}
 use Rattle.file.specs.declared.file.File.{File}
+use Rattle.file.specs.declared.entry.Entry.{Entry}
+use Rattle.file.specs.declared.entry.Entry.the-variants.{Valves, Track, Job, Steps}
+use Rattle.file.specs.Parts.{Part, part}
+use Rattle.file.specs.Read.{entries, parts}
 
 abbrev pub file-reader : File → Reader
 file-reader f = f .reader
@@ -15,3 +20,29 @@ file-bytes f = now (f .bytes)
 
 abbrev pub file-fault : File → Option FileFault
 file-fault f = f .fault
+
+-- the entry with a number, from 0
+abbrev pub entry-at : List Part → ℕ → Option Part
+entry-at [] n = None
+entry-at (e ∷ es) zero = Some e
+entry-at (e ∷ es) (suc n) = entry-at es n
+
+-- none of a file with a fault
+abbrev pub entry-of : Option FileFault → List ℕ → ℕ → Option Part
+entry-of (Some f) file n = None
+entry-of None file n = entry-at (parts file) n
+
+abbrev pub entries-of : Option FileFault → List ℕ → ℕ
+entries-of (Some f) file = 0
+entries-of None file = entries file
+
+-- the kind byte, the place and the body of an entry
+abbrev pub as-part : Entry → Part
+as-part (Valves p b) = part 1 p (now b)
+as-part (Track p b) = part 2 p (now b)
+as-part (Job p b) = part 3 p (now b)
+as-part (Steps p b) = part 4 p (now b)
+
+abbrev pub seen : Option Entry → Option Part
+seen None = None
+seen (Some e) = Some (as-part e)

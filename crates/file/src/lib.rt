@@ -6,3 +6,4 @@ pub mod read;
 pub mod file;
 pub mod open;
 pub mod entry;
+mod find;

@@ -1,0 +1,33 @@
+-- A file without a fault meets what finding an entry asks for.
+use mathlib.Core.Path.{_≡_, sym, _∙_, ap}
+use native.Mathlib.Omega.{arith}
+use lib.ListN.{drop}
+use Rattle.file.specs.Files.{entry-at, entry-of}
+use Rattle.file.specs.Read.{entries, rows, contents-end}
+use Rattle.file.specs.Parts.{parts-from}
+use Rattle.file.proofs.CheckByCheck.{behind-head, behind-head-rows}
+use Rattle.file.proofs.Acceptance.{Accepted, file-accepted, accepted-few, accepted-there, accepted-whole, accepted-known}
+use Rattle.file.proofs.Finding.{entry-past}
+use Rattle.file.proofs.file.File.entry.Needs as need
+
+pub returns-then-number-entries : need.returns-then-number-entries
+returns-then-number-entries c =
+    entry-past (entries (c .args .self .now .bytes .now)) (c .args .number) _ _ _ (c .if-number-entries .taken)
+    ∙ ap (λ o. entry-of o (c .args .self .now .bytes .now) (c .args .number)) (sym (c .in-None .is))
+
+pub find-requires : need.find-requires
+find-requires c κs =
+    let a : Accepted (c .args .self .now .reader) (c .args .self .now .bytes .now) = file-accepted _ _ _ (c .args .self .now .checked) (c .in-None .is) in
+    record {
+      few = accepted-few _ _ a;
+      there = accepted-there _ _ a;
+      whole = accepted-whole _ _ a;
+      known = accepted-known _ _ a;
+      within = c .if-number-entries .left
+    }
+
+pub returns : need.returns
+returns c =
+    c .find .ensures
+    ∙ (ap (λ rs. entry-at (parts-from (entries (c .args .self .now .bytes .now)) rs (contents-end (c .args .self .now .bytes .now)) (drop (contents-end (c .args .self .now .bytes .now)) (c .args .self .now .bytes .now))) (c .args .number)) (behind-head-rows (c .args .self .now .bytes .now))
+    ∙ ap (λ o. entry-of o (c .args .self .now .bytes .now) (c .args .number)) (sym (c .in-None .is)))
