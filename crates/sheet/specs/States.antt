@@ -2,7 +2,7 @@
 use mathlib.Core.Path.{_≡_}
 use mathlib.Core.Bool.{Bool, true, not, cond}
 use mathlib.Core.List.{List, [], _∷_, _++_}
-use Prim.Native.Nat.{ℕ, _+_, _-_, _*_}
+use Prim.Native.Nat.{ℕ, _+_, _-_, _*_, _≤_}
 use lib.Dec.{eqb, leb, ltb}
 use lib.ListN.{length, take, drop}
 use Rattle.std.specs.declared.option.Option.{Option}
@@ -77,8 +77,8 @@ Goes-on (Some r) s s′ b buffer buffer′ = Unit {0}
 Goes-on None s s′ b buffer buffer′ =
     (bs : List Steps) (rest : List ℕ) → Written s buffer bs rest → Written s′ buffer′ (bs ++ b ∷ []) (drop (body-length b) rest)
 
--- what a sheet that is closed at this length holds: the sheet of its bodies, all of them
+-- a sheet that is closed at this length is that of its bodies, all of them: at most 64, each sound
 abbrev pub Completes : State → ℕ → Type 0
 Completes s n =
     (buffer : List ℕ) (bs : List Steps) (rest : List ℕ) → Written s buffer bs rest →
-    (take n buffer ≡ sheet-bytes (length bs) bs) × (n ≡ length (sheet-bytes (length bs) bs))
+    (take n buffer ≡ sheet-bytes (length bs) bs) × (n ≡ length (sheet-bytes (length bs) bs)) × (length bs ≤ 64) × (all-sound bs ≡ true)

@@ -7,4 +7,4 @@ use Rattle.sheet.proofs.Completion.{completes}
 use Rattle.sheet.proofs.states.OpenSheet.close.Needs as need
 
 pub returns : need.returns
-returns c = record { cases = (search needs, refl, completes (state (c .args .self)) (omega arith)) }
+returns c = record { cases = (search needs, refl, completes (state (c .args .self)) (omega arith) (omega arith)) }
