@@ -2,6 +2,8 @@
 use Prim.Native.Nat.{ℕ, _+_, _*_}
 use Rattle.bodies.specs.JobRule.{job-byte}
 use Rattle.bodies.specs.StepsRule.{steps-byte}
+use Rattle.plant_bodies.specs.BenchRule.{valves-byte}
+use Rattle.plant_bodies.specs.TrackRule.{track-byte}
 use Rattle.faults.specs.declared.fault.ContentsFault.{ContentsFault}
 use Rattle.faults.specs.declared.fault.ContentsFault.the-variants as contents
 use Rattle.faults.specs.declared.fault.BodyFault.{BodyFault}
@@ -33,6 +35,8 @@ contents-number (contents.RowZero i) = 11
 contents-number (contents.NoBook i) = 14
 
 abbrev pub body-byte : BodyFault → ℕ
+body-byte (body.Valves p f) = p + valves-byte f
+body-byte (body.Track p f) = p + track-byte f
 body-byte (body.Job p f) = p + job-byte f
 body-byte (body.Steps p f) = p + steps-byte f
 

@@ -1,6 +1,8 @@
 // The faults of a file, each with what tells its byte.
 use bodies::job::JobFault;
 use bodies::steps::StepsFault;
+use plant_bodies::bench_body::ValvesFault;
+use plant_bodies::track_body::TrackFault;
 
 // A fault of the head or of the contents.
 #[derive(Clone, Copy)]
@@ -20,6 +22,8 @@ pub enum ContentsFault {
 // A fault of the body that begins at this byte of the file.
 #[derive(Clone, Copy)]
 pub enum BodyFault {
+    Valves { place: u16, fault: ValvesFault },
+    Track { place: u16, fault: TrackFault },
     Job { place: u16, fault: JobFault },
     Steps { place: u16, fault: StepsFault },
 }

@@ -9,6 +9,8 @@ use Rattle.std.specs.declared.option.Option.{Option}
 use Rattle.std.specs.declared.option.Option.the-variants.{Some, None}
 use Rattle.bodies.specs.JobRule.{job-fault}
 use Rattle.bodies.specs.StepsRule.{steps-fault}
+use Rattle.plant_bodies.specs.BenchRule.{valves-fault}
+use Rattle.plant_bodies.specs.TrackRule.{track-fault}
 use Rattle.faults.specs.declared.fault.BodyFault.{BodyFault}
 use Rattle.faults.specs.declared.fault.BodyFault.the-variants as body
 use Rattle.file.specs.declared.kind.Kind.{Kind}
@@ -38,8 +40,8 @@ plant-before rs i k = ltb k i && is-plant (kind-of (row-kind (drop (4 * k) rs)))
 -- the first fault of entry i, where these are the rows of all entries
 abbrev pub kind-fault : List ℕ → ℕ → Option Kind → ℕ → List ℕ → Option BodyFault
 kind-fault rs i None p bs = None
-kind-fault rs i (Some Valves) p bs = None
-kind-fault rs i (Some Track) p bs = None
+kind-fault rs i (Some Valves) p bs = mapped (body.Valves p) (valves-fault bs)
+kind-fault rs i (Some Track) p bs = mapped (body.Track p) (track-fault bs)
 kind-fault rs i (Some Job) p bs = mapped (body.Job p) (job-fault (plant-before rs i (getD bs 0 0)) bs)
 kind-fault rs i (Some Steps) p bs = mapped (body.Steps p) (steps-fault bs)
 

@@ -12,6 +12,8 @@ use bodies::job::job_fault;
 use bodies::steps::steps_fault;
 use faults::fault::BodyFault;
 use numbers::word;
+use plant_bodies::bench_body::valves_fault;
+use plant_bodies::track_body::track_fault;
 
 // Whether the entry that is named stands before this one and is a bench or a track.
 fn plant_before(rows: &[u8], number: u8, named: u8) -> bool
@@ -30,6 +32,14 @@ fn body_fault(rows: &[u8], number: u8, kind: u8, place: u16, body: &[u8]) -> Opt
     ensures { λ r. ⌜ r ≡ kind-fault (now (rows .entry)) number (kind-of kind) place (now (body .entry)) ⌝ }
 {
     match kind_of(kind) {
+        Some(Kind::Valves) => match valves_fault(body) {
+            Some(fault) => Some(BodyFault::Valves { place, fault }),
+            None => None,
+        },
+        Some(Kind::Track) => match track_fault(body) {
+            Some(fault) => Some(BodyFault::Track { place, fault }),
+            None => None,
+        },
         Some(Kind::Job) => {
             let named = match body {
                 [first, ..] => *first,
@@ -44,7 +54,7 @@ fn body_fault(rows: &[u8], number: u8, kind: u8, place: u16, body: &[u8]) -> Opt
             Some(fault) => Some(BodyFault::Steps { place, fault }),
             None => None,
         },
-        _ => None,
+        None => None,
     }
 }
 
