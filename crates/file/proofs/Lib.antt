@@ -3,3 +3,4 @@ pub mod PartByPart
 pub mod CheckByCheck
 pub mod Finding
 pub mod Acceptance
+pub mod Examples
