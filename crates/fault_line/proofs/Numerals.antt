@@ -24,8 +24,9 @@ digits-enough zero j n h g = absurd (omega arith)
 digits-enough (suc k) zero n h g = absurd (omega arith)
 digits-enough (suc k) (suc j) n h g =
     elim (cases-lt n 10) [
-      inl l ↦ digits-one k n l ∙ sym (digits-one j n l)
-    | inr l ↦ digits-more k n l ∙ (ap (λ ds. ds ++ (48 + n % 10) ∷ []) (digits-enough k j (n / 10) (omega arith) (omega arith)) ∙ sym (digits-more j n l)) ]
+      | inl l ↦ digits-one k n l ∙ sym (digits-one j n l)
+      | inr l ↦ digits-more k n l ∙ (ap (λ ds. ds ++ (48 + n % 10) ∷ []) (digits-enough k j (n / 10) (omega arith) (omega arith)) ∙ sym (digits-more j n l))
+    ]
 
 pub numeral-one : (n : ℕ) → n < 10 → numeral n ≡ (48 + n) ∷ []
 numeral-one n h = digits-one n n h
@@ -44,8 +45,9 @@ length-digits zero (suc f) n h = omega (arith, ap length (digits-one f n (omega 
 length-digits (suc k) (suc f) n h =
     let r : n < 10 * tens (suc k) → length (digits f (n / 10)) ≤ suc k = λ g. length-digits k f (n / 10) (omega arith) in
     elim (cases-lt n 10) [
-      inl l ↦ omega (arith, ap length (digits-one f n l))
-    | inr l ↦ omega (arith, r h, ap length (digits-more f n l), length-push (digits f (n / 10)) (48 + n % 10)) ]
+      | inl l ↦ omega (arith, ap length (digits-one f n l))
+      | inr l ↦ omega (arith, r h, ap length (digits-more f n l), length-push (digits f (n / 10)) (48 + n % 10))
+    ]
 
 -- the last digit behind the others
 pub numeral-room : (n : ℕ) (before : List ℕ) → 10 ≤ n → length before + length (numeral n) ≤ 32 → length before + length (numeral (n / 10)) < 32

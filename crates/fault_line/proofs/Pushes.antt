@@ -39,5 +39,19 @@ pub room-for-byte : (l : Layer) (word : List ℕ) (number byte : ℕ) (z a b c d
 room-for-byte l word number byte z a b c d e w m n o p q r s t =
     let x : length (numeral number) ≤ 3 = length-digits 2 (suc number) number (omega arith) in
     let y : length (numeral byte) ≤ 10 = length-digits 9 (suc byte) byte (omega arith) in
-    omega (arith, layer-short l, ap length w, ap length o, ap length p, length-append z (codes "fault "), ap length q, length-append a word, ap length r, length-push b 32,
-      ap length s, length-append c (numeral number), ap length t, length-push d 32)
+    omega (
+      arith,
+      layer-short l,
+      ap length w,
+      ap length o,
+      ap length p,
+      length-append z (codes "fault "),
+      ap length q,
+      length-append a word,
+      ap length r,
+      length-push b 32,
+      ap length s,
+      length-append c (numeral number),
+      ap length t,
+      length-push d 32,
+    )

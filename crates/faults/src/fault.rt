@@ -1,11 +1,19 @@
 // The faults of a file, each with what tells its byte.
 use bodies::job::JobFault;
+use bodies::job::JobFaultDebug;
+use bodies::job::JobFaultPartialEq;
 use bodies::steps::StepsFault;
+use bodies::steps::StepsFaultDebug;
+use bodies::steps::StepsFaultPartialEq;
 use plant_bodies::bench_body::ValvesFault;
+use plant_bodies::bench_body::ValvesFaultDebug;
+use plant_bodies::bench_body::ValvesFaultPartialEq;
 use plant_bodies::track_body::TrackFault;
+use plant_bodies::track_body::TrackFaultDebug;
+use plant_bodies::track_body::TrackFaultPartialEq;
 
 // A fault of the head or of the contents.
-#[derive(Clone, Copy)]
+#[derive(Clone, Copy, PartialEq, Eq, Debug)]
 pub enum ContentsFault {
     // more than 64 entries
     Entries,
@@ -20,7 +28,7 @@ pub enum ContentsFault {
 }
 
 // A fault of the body that begins at this byte of the file.
-#[derive(Clone, Copy)]
+#[derive(Clone, Copy, PartialEq, Eq, Debug)]
 pub enum BodyFault {
     Valves { place: u16, fault: ValvesFault },
     Track { place: u16, fault: TrackFault },
@@ -29,7 +37,7 @@ pub enum BodyFault {
 }
 
 // The first fault of a file.
-#[derive(Clone, Copy)]
+#[derive(Clone, Copy, PartialEq, Eq, Debug)]
 pub enum FileFault {
     // the file ends here, and more is owed
     TooShort { end: u16 },

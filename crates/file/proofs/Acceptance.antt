@@ -58,7 +58,7 @@ accepted r file h =
 -- the numbers of the head
 pub head-numbers : (n e z : ℕ) →
     cond (ltb 65535 n) (Some (TooLong 65535)) (cond (ltb n 2) (Some (TooShort n)) (cond (ltb 64 e) (Some (Contents contents.Entries))
-      (cond (not (eqb z 0)) (Some (Contents contents.HeadZero)) (cond (ltb n (2 + 4 * e)) (Some (TooShort n)) None)))) ≡ None →
+    (cond (not (eqb z 0)) (Some (Contents contents.HeadZero)) (cond (ltb n (2 + 4 * e)) (Some (TooShort n)) None)))) ≡ None →
     (n ≤ 65535) × (2 ≤ n) × (e ≤ 64) × (z ≡ 0) × (2 + 4 * e ≤ n)
 head-numbers n e z h = (grind (arith, tells), grind (arith, tells), grind (arith, tells), grind (arith, tells), grind (arith, tells))
 

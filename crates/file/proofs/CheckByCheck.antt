@@ -52,17 +52,17 @@ pub read-short : (r : Reader) (file : List ℕ) (told : ℕ) → None ≡ head-f
     told ≡ told-length file → length file < told → Some (TooShort (length file)) ≡ read-fault r file
 read-short r file told h g t l =
     let e : Some (TooShort (length file)) ≡ length-fault file =
-        sym (ap (λ b. cond b (Some (TooShort (length file))) (cond (ltb told (length file)) (Some (TooLong told)) None)) (lt-ltb (length file) told l))
-        ∙ ap (λ k. cond (ltb (length file) k) (Some (TooShort (length file))) (cond (ltb k (length file)) (Some (TooLong k)) None)) t in
+    sym (ap (λ b. cond b (Some (TooShort (length file))) (cond (ltb told (length file)) (Some (TooLong told)) None)) (lt-ltb (length file) told l))
+    ∙ ap (λ k. cond (ltb (length file) k) (Some (TooShort (length file))) (cond (ltb k (length file)) (Some (TooLong k)) None)) t in
     ap (λ o. or-else o (mapped Body (bodies-fault file))) e ∙ after-rows r file h g
 
 pub read-long : (r : Reader) (file : List ℕ) (told : ℕ) → None ≡ head-fault file → None ≡ rows-fault r (entries file) 0 (behind-head file) →
     told ≡ told-length file → told < length file → told ≤ length file → Some (TooLong told) ≡ read-fault r file
 read-long r file told h g t l le =
     let e : Some (TooLong told) ≡ length-fault file =
-        sym (ap (λ b. cond b (Some (TooShort (length file))) (cond (ltb told (length file)) (Some (TooLong told)) None)) (le-ltb (length file) told le)
-          ∙ ap (λ b. cond b (Some (TooLong told)) None) (lt-ltb told (length file) l))
-        ∙ ap (λ k. cond (ltb (length file) k) (Some (TooShort (length file))) (cond (ltb k (length file)) (Some (TooLong k)) None)) t in
+    sym (ap (λ b. cond b (Some (TooShort (length file))) (cond (ltb told (length file)) (Some (TooLong told)) None)) (le-ltb (length file) told le)
+    ∙ ap (λ b. cond b (Some (TooLong told)) None) (lt-ltb told (length file) l))
+    ∙ ap (λ k. cond (ltb (length file) k) (Some (TooShort (length file))) (cond (ltb k (length file)) (Some (TooLong k)) None)) t in
     ap (λ o. or-else o (mapped Body (bodies-fault file))) e ∙ after-rows r file h g
 
 -- once the length is right too
@@ -72,8 +72,8 @@ pub read-bodies : (r : Reader) (file : List ℕ) (told : ℕ) (o : Option BodyFa
     mapped Body o ≡ read-fault r file
 read-bodies r file told o h g t le ge b =
     let e : None ≡ length-fault file =
-        sym (ap (λ b. cond b (Some (TooShort (length file))) (cond (ltb told (length file)) (Some (TooLong told)) None)) (le-ltb (length file) told le)
-          ∙ ap (λ b. cond b (Some (TooLong told)) None) (le-ltb told (length file) ge))
-        ∙ ap (λ k. cond (ltb (length file) k) (Some (TooShort (length file))) (cond (ltb k (length file)) (Some (TooLong k)) None)) t in
+    sym (ap (λ b. cond b (Some (TooShort (length file))) (cond (ltb told (length file)) (Some (TooLong told)) None)) (le-ltb (length file) told le)
+    ∙ ap (λ b. cond b (Some (TooLong told)) None) (le-ltb told (length file) ge))
+    ∙ ap (λ k. cond (ltb (length file) k) (Some (TooShort (length file))) (cond (ltb k (length file)) (Some (TooLong k)) None)) t in
     let f : o ≡ bodies-fault file = b ∙ ap (λ rs. parts-fault rs 0 (parts-from (entries file) rs (contents-end file) (drop (contents-end file) file))) (behind-head-rows file) in
     ap (mapped Body) f ∙ (ap (λ k. or-else k (mapped Body (bodies-fault file))) e ∙ after-rows r file h g)

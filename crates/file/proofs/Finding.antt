@@ -22,8 +22,8 @@ pub entry-behind : (e i k place n : ℕ) (rest file : List ℕ) (a : Option Part
     entry-at (parts-from (e - (i + 1)) (take (length rest - 4) (drop 4 rest)) (place + n) (drop (place + n) file)) (k - (i + 1)) ≡ a
 entry-behind e i k place n rest file a h l m f =
     let u : entry-at (parts-from (suc (e - (i + 1))) rest place (drop place file)) (suc (k - (i + 1))) ≡ a =
-        ap (λ j. entry-at (parts-from j rest place (drop place file)) (suc (k - (i + 1)))) (sym (left-more e i (omega arith)))
-        ∙ (ap (λ j. entry-at (parts-from (e - i) rest place (drop place file)) j) (sym (left-more k i l)) ∙ f) in
+    ap (λ j. entry-at (parts-from j rest place (drop place file)) (suc (k - (i + 1)))) (sym (left-more e i (omega arith)))
+    ∙ (ap (λ j. entry-at (parts-from (e - i) rest place (drop place file)) j) (sym (left-more k i l)) ∙ f) in
     ap (λ r. entry-at (parts-from (e - (i + 1)) r (place + n) (drop (place + n) file)) (k - (i + 1))) (take-rest rest 4)
     ∙ (ap (λ j. entry-at (parts-from (e - (i + 1)) (drop 4 rest) (place + j) (drop (place + j) file)) (k - (i + 1))) m
     ∙ (ap (λ d. entry-at (parts-from (e - (i + 1)) (drop 4 rest) (place + row-length rest) d) (k - (i + 1))) (sym (drop-drop (row-length rest) place file)) ∙ u))
@@ -45,8 +45,8 @@ entry-here e i k place n rest file a h l g t w f m q =
     let s : e - i ≡ suc (e - (i + 1)) = left-more e i (omega arith) in
     let v : known-rows (suc (e - (i + 1))) rest ≡ true = ap (λ j. known-rows j rest) (sym s) ∙ w in
     let u : entry-at (parts-from (suc (e - (i + 1))) rest place (drop place file)) 0 ≡ a =
-        ap (λ j. entry-at (parts-from j rest place (drop place file)) 0) (sym s)
-        ∙ (ap (λ j. entry-at (parts-from (e - i) rest place (drop place file)) j) (sym z) ∙ f) in
+    ap (λ j. entry-at (parts-from j rest place (drop place file)) 0) (sym s)
+    ∙ (ap (λ j. entry-at (parts-from (e - i) rest place (drop place file)) j) (sym z) ∙ f) in
     ap (λ b. cond b (Some (part (row-kind rest) place (take m (drop place file)))) None) (and-parts (isSome (kind-of (row-kind rest))) (known-rows (e - (i + 1)) (drop 4 rest)) v .0)
     ∙ (ap (λ j. Some (part (row-kind rest) place (take j (drop place file)))) (q ∙ t) ∙ u)
 

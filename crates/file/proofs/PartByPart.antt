@@ -42,10 +42,10 @@ bodies-behind e i n place rest all h l f =
 pub part-next : (rs : List ℕ) (e i place n : ℕ) (rest file : List ℕ) (a : Option BodyFault) → i < e → n ≡ row-length rest →
     parts-fault rs i (parts-from (e - i) rest place (drop place file)) ≡ a →
     first-fault (kind-fault rs i (kind-of (row-kind rest)) place (take n (drop place file)))
-      (parts-fault rs (suc i) (parts-from (e - (i + 1)) (drop 4 rest) (place + n) (drop n (drop place file)))) ≡ a
+    (parts-fault rs (suc i) (parts-from (e - (i + 1)) (drop 4 rest) (place + n) (drop n (drop place file)))) ≡ a
 part-next rs e i place n rest file a h l f =
     ap (λ m. first-fault (kind-fault rs i (kind-of (row-kind rest)) place (take m (drop place file)))
-      (parts-fault rs (suc i) (parts-from (e - (i + 1)) (drop 4 rest) (place + m) (drop m (drop place file))))) l
+    (parts-fault rs (suc i) (parts-from (e - (i + 1)) (drop 4 rest) (place + m) (drop m (drop place file))))) l
     ∙ (ap (λ k. parts-fault rs i (parts-from k rest place (drop place file))) (sym (left-more e i h)) ∙ f)
 
 -- a body that is wrong gives the answer
@@ -54,7 +54,7 @@ pub part-wrong : (rs : List ℕ) (e i place n k : ℕ) (rest file : List ℕ) (a
     parts-fault rs i (parts-from (e - i) rest place (drop place file)) ≡ a → Some f ≡ a
 part-wrong rs e i place n k rest file a f h l m g q =
     ap (λ o. first-fault o (parts-fault rs (suc i) (parts-from (e - (i + 1)) (drop 4 rest) (place + n) (drop n (drop place file)))))
-      (g ∙ ap (λ j. kind-fault rs i (kind-of (row-kind rest)) place (take j (drop place file))) m)
+    (g ∙ ap (λ j. kind-fault rs i (kind-of (row-kind rest)) place (take j (drop place file))) m)
     ∙ part-next rs e i place n rest file a h l q
 
 -- a body that is right leaves it to those behind
@@ -67,5 +67,5 @@ part-right rs e i place n k rest file a h l m g q =
     ∙ (ap (λ r. parts-fault rs (suc i) (parts-from (e - (i + 1)) r (place + n) (drop (place + n) file))) (take-rest rest 4)
     ∙ (ap (λ d. parts-fault rs (suc i) (parts-from (e - (i + 1)) (drop 4 rest) (place + n) d)) (sym (drop-drop n place file))
     ∙ (ap (λ o. first-fault o (parts-fault rs (suc i) (parts-from (e - (i + 1)) (drop 4 rest) (place + n) (drop n (drop place file)))))
-      (g ∙ ap (λ j. kind-fault rs i (kind-of (row-kind rest)) place (take j (drop place file))) m)
+    (g ∙ ap (λ j. kind-fault rs i (kind-of (row-kind rest)) place (take j (drop place file))) m)
     ∙ part-next rs e i place n rest file a h l q)))

@@ -33,7 +33,7 @@ pub row-wrong-zero : (r : Reader) (e i : ℕ) (rs : List ℕ) (a : Option Conten
 row-wrong-zero r e i rs a h t z f =
     let u : rows-fault r (suc (e - (i + 1))) i rs ≡ a = ap (λ n. rows-fault r n i rs) (sym (left-more e i h)) ∙ f in
     sym (ap (λ b. cond (not b) (Some (contents.Kind i)) (cond (not (eqb (row-zero rs) 0)) (Some (contents.RowZero i)) (rows-fault r (e - (i + 1)) (suc i) (drop 4 rs)))) t
-      ∙ ap (λ b. cond (not b) (Some (contents.RowZero i)) (rows-fault r (e - (i + 1)) (suc i) (drop 4 rs))) (ne-eqb (row-zero rs) 0 z)) ∙ u
+    ∙ ap (λ b. cond (not b) (Some (contents.RowZero i)) (rows-fault r (e - (i + 1)) (suc i) (drop 4 rs))) (ne-eqb (row-zero rs) 0 z)) ∙ u
 
 pub row-right : (r : Reader) (e i : ℕ) (rs : List ℕ) (a : Option ContentsFault) → i < e → takes r (row-kind rs) ≡ true → row-zero rs ≡ 0 →
     rows-fault r (e - i) i rs ≡ a → rows-fault r (e - (i + 1)) (i + 1) (take (length rs - 4) (drop 4 rs)) ≡ a
@@ -42,7 +42,7 @@ row-right r e i rs a h t z f =
     ap (λ k. rows-fault r (e - (i + 1)) k (take (length rs - 4) (drop 4 rs))) (add-one i)
     ∙ (ap (rows-fault r (e - (i + 1)) (suc i)) (take-rest rs 4)
     ∙ (sym (ap (λ b. cond (not b) (Some (contents.Kind i)) (cond (not (eqb (row-zero rs) 0)) (Some (contents.RowZero i)) (rows-fault r (e - (i + 1)) (suc i) (drop 4 rs)))) t
-      ∙ ap (λ b. cond (not b) (Some (contents.RowZero i)) (rows-fault r (e - (i + 1)) (suc i) (drop 4 rs))) (eq-eqb (row-zero rs) 0 z)) ∙ u))
+    ∙ ap (λ b. cond (not b) (Some (contents.RowZero i)) (rows-fault r (e - (i + 1)) (suc i) (drop 4 rs))) (eq-eqb (row-zero rs) 0 z)) ∙ u))
 
 -- the rows behind are there
 pub rows-there : (e i : ℕ) (rs : List ℕ) → i < e → 4 * (e - i) ≤ length rs → 4 * (e - (i + 1)) ≤ length (take (length rs - 4) (drop 4 rs))

@@ -28,8 +28,17 @@ field-4 n bs =
 
 pub field-8 : (n : ℕ) (bs : List ℕ) → value (take 8 (drop n bs)) ≡ value (take 4 (drop n bs)) + 4294967296 * value (take 4 (drop (suc (suc (suc (suc n)))) bs))
 field-8 n bs =
-    omega (arith, value-at n bs 7, value-at (suc n) bs 6, value-at (suc (suc n)) bs 5, value-at (suc (suc (suc n))) bs 4,
-      value-at n bs 3, value-at (suc n) bs 2, value-at (suc (suc n)) bs 1, value-at (suc (suc (suc n))) bs 0)
+    omega (
+      arith,
+      value-at n bs 7,
+      value-at (suc n) bs 6,
+      value-at (suc (suc n)) bs 5,
+      value-at (suc (suc (suc n))) bs 4,
+      value-at n bs 3,
+      value-at (suc n) bs 2,
+      value-at (suc (suc n)) bs 1,
+      value-at (suc (suc (suc n))) bs 0,
+    )
 
 -- a list of just these bytes
 pub value-whole : (k : ℕ) (bs : List ℕ) → length bs ≡ k → value (take k (drop 0 bs)) ≡ value bs

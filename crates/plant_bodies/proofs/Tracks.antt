@@ -23,8 +23,8 @@ unfolding checks
 checks-pass l n m o e a b d =
     let w : (ltb n 1 || ltb 512 n) ≡ false = or-from (ltb n 1) (ltb 512 n) (le-ltb n 1 a) (le-ltb 512 n b) in
     sym (ap (λ c. cond (not c) (Some Length) (cond (ltb n 1 || ltb 512 n) (Some Stations) (cond (ltb 1024 m) (Some Links) o))) (eq-eqb l (4 + 4 * m) e)
-      ∙ (ap (λ c. cond c (Some Stations) (cond (ltb 1024 m) (Some Links) o)) w
-      ∙ ap (λ c. cond c (Some Links) o) (le-ltb 1024 m d)))
+    ∙ (ap (λ c. cond c (Some Stations) (cond (ltb 1024 m) (Some Links) o)) w
+    ∙ ap (λ c. cond c (Some Links) o) (le-ltb 1024 m d)))
 
 -- once length and counts are right
 pub track-links : (bs : List ℕ) (n m : ℕ) (o : Option TrackFault) → n ≡ stations-in bs → m ≡ link-count bs → length bs ≡ 4 + 4 * m → 1 ≤ n → n ≤ 512 → m ≤ 1024 →

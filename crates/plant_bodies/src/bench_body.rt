@@ -5,8 +5,10 @@ ghost use lib.ListN.{length};
 ghost use Rattle.valves.specs.Faults.{bench-fault, positions-fault, interlock-fault, interlocks-fault};
 ghost use Rattle.plant_bodies.specs.BenchRule.{interlock, interlocks-in, valves-fault};
 use valves::fault::BenchFault;
+use valves::fault::BenchFaultDebug;
+use valves::fault::BenchFaultPartialEq;
 
-#[derive(Clone, Copy)]
+#[derive(Clone, Copy, PartialEq, Eq, Debug)]
 pub enum ValvesFault {
     // not as long as its counts of valves and interlocks say
     Length,
@@ -100,7 +102,10 @@ pub fn valves_fault(body: &[u8]) -> Option<ValvesFault>
         return Some(ValvesFault::Length);
     }
     match bench_fault(&rest[0..split], *count, &rest[split..end]) {
-        Some(fault) => Some(ValvesFault::Bench { valves: *valves, fault }),
+        Some(fault) => Some(ValvesFault::Bench {
+            valves: *valves,
+            fault,
+        }),
         None => None,
     }
 }

@@ -5,7 +5,7 @@ ghost use lib.ListN.{length};
 ghost use Rattle.plant_bodies.specs.TrackRule.{joins, link-fault, links-in, links-fault, track-fault};
 use numbers::word;
 
-#[derive(Clone, Copy)]
+#[derive(Clone, Copy, PartialEq, Eq, Debug)]
 pub enum TrackFault {
     // not as long as its count of links says
     Length,

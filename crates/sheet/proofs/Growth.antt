@@ -18,7 +18,7 @@ pub over-behind : (front tail ys : List ℕ) (n : ℕ) → length front ≡ n �
 over-behind front tail ys n f =
     let t : take n (front ++ tail) ≡ front = take-at front tail n f in
     let d : drop (n + length ys) (front ++ tail) ≡ drop (length ys) tail =
-        sym (drop-drop (length ys) n (front ++ tail)) ∙ ap (drop (length ys)) (drop-at front tail n f) in
+    sym (drop-drop (length ys) n (front ++ tail)) ∙ ap (drop (length ys)) (drop-at front tail n f) in
     rw (t, d) refl
 
 -- the first of the rows that are still zero
@@ -63,10 +63,10 @@ put-sheet n bs b rest end row h e r =
     let front = n ∷ (0 ∷ joined row-bytes bs) in
     let tail = zeros (4 * (n - (length bs + 1))) ++ (joined body-bytes bs ++ behind) in
     let one : over end (body-bytes b) (sheet-bytes n bs ++ rest) ≡ sheet-bytes n bs ++ behind =
-        over-behind (sheet-bytes n bs) rest (body-bytes b) end (sym e) ∙ ap (λ k. sheet-bytes n bs ++ (body-bytes b ++ drop k rest)) (length-body b) in
+    over-behind (sheet-bytes n bs) rest (body-bytes b) end (sym e) ∙ ap (λ k. sheet-bytes n bs ++ (body-bytes b ++ drop k rest)) (length-body b) in
     let f : length front ≡ row = omega (arith, length-rows bs) in
     let two : over row (row-bytes b) (front ++ (zeros 4 ++ tail)) ≡ front ++ (row-bytes b ++ tail) =
-        over-behind front (zeros 4 ++ tail) (row-bytes b) row f in
+    over-behind front (zeros 4 ++ tail) (row-bytes b) row f in
     ap (over row (row-bytes b)) (one ∙ from-free-row n bs behind h) ∙ (two ∙ sym (pushed-sheet n bs b (drop (body-length b) rest)))
 
 pub all-sound-push : (bs : List Steps) (b : Steps) → all-sound bs ≡ true → sound b ≡ true → all-sound (bs ++ b ∷ []) ≡ true
@@ -84,5 +84,5 @@ written-more s b buffer h k bs rest w =
       filled = omega (arith, w .filled, length-push bs b);
       end = omega (arith, w .end, length-sheet-push (s .declared) bs b few);
       sound = all-sound-push bs b (w .sound) k;
-      begins = ap (put-bytes s b) (w .begins) ∙ put-sheet (s .declared) bs b rest (s .end) (2 + 4 * s .filled) few (w .end) (ap (λ m. 2 + 4 * m) (w .filled))
+      begins = ap (put-bytes s b) (w .begins) ∙ put-sheet (s .declared) bs b rest (s .end) (2 + 4 * s .filled) few (w .end) (ap (λ m. 2 + 4 * m) (w .filled));
     }

@@ -40,7 +40,7 @@ body-written part ys zs os a n k l e w f z =
     let eight : length (take 8 (drop 2 (set (set part 0 a) 1 0))) ≡ 8 = length-part (set (set part 0 a) 1 0) 2 8 (omega arith) in
     let y : ys ≡ low 8 n = f ∙ ap (λ i. low i n) eight in
     let b : putMid 10 k (putMid 2 8 (set (set part 0 a) 1 0) ys) zs ≡ a ∷ (0 ∷ (ys ++ zs)) =
-        body-part part ys zs a k (omega arith) (ap length y ∙ length-low 8 n) (ap length z ∙ (w ∙ omega arith)) in
+    body-part part ys zs a k (omega arith) (ap length y ∙ length-low 8 n) (ap length z ∙ (w ∙ omega arith)) in
     b ∙ (ap (λ t. a ∷ (0 ∷ (t ++ zs))) y ∙ ap (λ t. a ∷ (0 ∷ (low 8 n ++ t))) z)
 
 -- a row of which kind, 0 and length are written

@@ -28,7 +28,13 @@ fn keeps_rule(answer: u8, count: u64, operations: usize) -> bool
 
 impl OpenSheet {
     // Why a body of so many operations cannot be put on a buffer of so many bytes.
-    fn refusal(&self, room: usize, answer: u8, count: u64, operations: usize) -> Option<SheetRefusal>
+    fn refusal(
+        &self,
+        room: usize,
+        answer: u8,
+        count: u64,
+        operations: usize,
+    ) -> Option<SheetRefusal>
         ensures { λ r. ⌜ r ≡ put-refusal-by (state (now (self .entry))) (go-together answer count operations) operations room ⌝ }
     {
         if !keeps_rule(answer, count, operations) {
@@ -45,7 +51,13 @@ impl OpenSheet {
 
     // Writes a body straight behind the one before and fills its row. Refuses a body that breaks its rule, then one
     // more than declared, then one for which the buffer has no room; a refusal changes nothing.
-    pub fn put(&mut self, buffer: &mut [u8], answer: u8, count: u64, operations: &[u16]) -> Result<(), SheetRefusal>
+    pub fn put(
+        &mut self,
+        buffer: &mut [u8],
+        answer: u8,
+        count: u64,
+        operations: &[u16],
+    ) -> Result<(), SheetRefusal>
         ensures refusal { λ r. ⌜ errPart r ≡ put-refusal (state (now (self .entry))) (steps answer count (now (operations .entry))) (length (now (buffer .entry))) ⌝ }
         ensures sheet { λ r. ⌜ state (now (self .exit)) ≡ unless (errPart r) (state (now (self .entry))) (put-state (state (now (self .entry))) (steps answer count (now (operations .entry)))) ⌝ }
         ensures bytes { λ r. ⌜ now (buffer .exit) ≡ unless (errPart r) (now (buffer .entry)) (put-bytes (state (now (self .entry))) (steps answer count (now (operations .entry))) (now (buffer .entry))) ⌝ }

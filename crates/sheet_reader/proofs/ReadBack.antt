@@ -121,7 +121,7 @@ bodies-of-complete bs =
 -- the stages of reading it
 head-right : (n e z : ℕ) → n ≤ 65535 → e ≤ 64 → z ≡ 0 → 2 + 4 * e ≤ n →
     cond (ltb 65535 n) (Some (TooLong 65535)) (cond (ltb n 2) (Some (TooShort n)) (cond (ltb 64 e) (Some (Contents contents.Entries))
-      (cond (not (eqb z 0)) (Some (Contents contents.HeadZero)) (cond (ltb n (2 + 4 * e)) (Some (TooShort n)) None)))) ≡ None
+    (cond (not (eqb z 0)) (Some (Contents contents.HeadZero)) (cond (ltb n (2 + 4 * e)) (Some (TooShort n)) None)))) ≡ None
 head-right n e z a b d f = grind (arith, tells)
 
 length-right : (n t : ℕ) → t ≡ n → cond (ltb n t) (Some (TooShort n)) (cond (ltb t n) (Some (TooLong t)) None) ≡ None
@@ -156,6 +156,7 @@ complete-read bs h s =
 -- the law
 pub reads-back : (file : List ℕ) → Reads-back file (read-fault StepsAlone file)
 reads-back file bs h s e =
-    let f : file ≡ complete bs = e ∙ complete-is bs in
-    (ap (read-fault StepsAlone) f ∙ complete-read bs h s,
-     ap bodies-in f ∙ (ap (map said) (complete-parts bs s) ∙ parts-say bs (2 + 4 * length bs) s))
+    let f : file ≡ complete bs = e ∙ complete-is bs in (
+      ap (read-fault StepsAlone) f ∙ complete-read bs h s,
+      ap bodies-in f ∙ (ap (map said) (complete-parts bs s) ∙ parts-say bs (2 + 4 * length bs) s),
+    )

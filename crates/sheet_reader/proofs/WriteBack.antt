@@ -87,15 +87,15 @@ rows-and-bodies (suc e) (k ∷ (z ∷ (lo ∷ (hi ∷ rs)))) bs all i p br bb l 
     let w : 4 * suc e ≡ suc (suc (suc (suc (4 * e)))) = omega arith in
     record {
       rows =
-        ap (λ j. take j (k ∷ (z ∷ (lo ∷ (hi ∷ rs))))) w
-        ∙ (ap (λ j. j ∷ (z ∷ (lo ∷ (hi ∷ take (4 * e) rs)))) four
-        ∙ (ap (λ j. 4 ∷ (j ∷ (lo ∷ (hi ∷ take (4 * e) rs)))) (q .1)
-        ∙ (ap (λ t. (4 ∷ (0 ∷ (lo ∷ (hi ∷ [])))) ++ t) (r .rows)
-        ∙ ap (λ t. t ++ joined row-bytes (map said (parts-from e rs (p + n) (drop n bs)))) (sym row))));
+          ap (λ j. take j (k ∷ (z ∷ (lo ∷ (hi ∷ rs))))) w
+          ∙ (ap (λ j. j ∷ (z ∷ (lo ∷ (hi ∷ take (4 * e) rs)))) four
+          ∙ (ap (λ j. 4 ∷ (j ∷ (lo ∷ (hi ∷ take (4 * e) rs)))) (q .1)
+          ∙ (ap (λ t. (4 ∷ (0 ∷ (lo ∷ (hi ∷ [])))) ++ t) (r .rows)
+          ∙ ap (λ t. t ++ joined row-bytes (map said (parts-from e rs (p + n) (drop n bs)))) (sym row))));
       bodies =
-        sym (take-append-drop n bs)
-        ∙ (ap (λ t. take n bs ++ t) (r .bodies)
-        ∙ ap (λ t. t ++ joined body-bytes (map said (parts-from e rs (p + n) (drop n bs)))) (sym (accepted-written (take n bs) (bytes-take n bs bb) s)))
+          sym (take-append-drop n bs)
+          ∙ (ap (λ t. take n bs ++ t) (r .bodies)
+          ∙ ap (λ t. t ++ joined body-bytes (map said (parts-from e rs (p + n) (drop n bs)))) (sym (accepted-written (take n bs) (bytes-take n bs bb) s)));
     }
 
 pub length-parts : (e : ℕ) (rs : List ℕ) (p : ℕ) (bs : List ℕ) → length (map said (parts-from e rs p bs)) ≡ e

@@ -13,10 +13,10 @@ use Rattle.sheet_reader.proofs.read_sheet.Needs as need
 
 pub returns : need.returns
 returns c = record {
-    fault = c .read .ensures .fault;
-    bytes = c .read .ensures .bytes;
-    reader = c .read .ensures .reader;
-    back = subst (λ (o : Option FileFault). Reads-back (c .args .bytes .now) o) (sym (c .read .ensures .fault)) (reads-back (c .args .bytes .now));
-    forth = subst (λ (o : Option FileFault). Writes-back (c .args .bytes .now) o) (sym (c .read .ensures .fault))
-      (writes-back (c .args .bytes .now) (bytes-from (c .args .bytes .now) (λ i. omega (arith, c .typed .bytes i))))
-  }
+  fault = c .read .ensures .fault;
+  bytes = c .read .ensures .bytes;
+  reader = c .read .ensures .reader;
+  back = subst (λ (o : Option FileFault). Reads-back (c .args .bytes .now) o) (sym (c .read .ensures .fault)) (reads-back (c .args .bytes .now));
+  forth = subst (λ (o : Option FileFault). Writes-back (c .args .bytes .now) o) (sym (c .read .ensures .fault))
+      (writes-back (c .args .bytes .now) (bytes-from (c .args .bytes .now) (λ i. omega (arith, c .typed .bytes i))));
+}

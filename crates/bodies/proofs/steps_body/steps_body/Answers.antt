@@ -8,7 +8,7 @@ use Rattle.bodies.proofs.steps_body.steps_body.Needs as need
 
 pub returns : need.returns
 returns c = record {
-    answer = refl;
-    count = omega (arith, field-8 2 (c .args .body .now), field-4 2 (c .args .body .now), field-4 6 (c .args .body .now), field-2 2 (c .args .body .now), field-2 4 (c .args .body .now), field-2 6 (c .args .body .now), field-2 8 (c .args .body .now));
-    operations = ap pairs (take-rest (c .args .body .now) 10)
-  }
+  answer = refl;
+  count = omega (arith, field-8 2 (c .args .body .now), field-4 2 (c .args .body .now), field-4 6 (c .args .body .now), field-2 2 (c .args .body .now), field-2 4 (c .args .body .now), field-2 6 (c .args .body .now), field-2 8 (c .args .body .now));
+  operations = ap pairs (take-rest (c .args .body .now) 10);
+}

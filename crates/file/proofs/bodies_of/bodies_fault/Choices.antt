@@ -9,6 +9,6 @@ use Rattle.file.proofs.bodies_of.bodies_fault.Given as given
 abbrev pub Inv-loop-number : given.InvT-loop-number
 Inv-loop-number l =
     (parts-fault (l .rows) (l .number) (parts-from (l .entries - l .number) (l .rest) (l .place) (drop (l .place) (l .file)))
-      ≡ parts-fault (l .rows) 0 (parts-from (l .entries) (l .rows) (2 + 4 * l .entries) (drop (2 + 4 * l .entries) (l .file))))
+    ≡ parts-fault (l .rows) 0 (parts-from (l .entries) (l .rows) (2 + 4 * l .entries) (drop (2 + 4 * l .entries) (l .file))))
     × (4 * (l .entries - l .number) ≤ length (l .rest))
     × (l .place + rows-length (l .entries - l .number) (l .rest) ≡ length (l .file))

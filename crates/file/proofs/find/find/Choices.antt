@@ -11,7 +11,7 @@ use Rattle.file.proofs.find.find.Given as given
 abbrev pub Inv-loop-before : given.InvT-loop-before
 Inv-loop-before l =
     (entry-at (parts-from (l .entries - l .-before) (l .rest) (l .place) (drop (l .place) (l .file))) (l .number - l .-before)
-      ≡ entry-at (parts-from (l .entries) (l .rows) (2 + 4 * l .entries) (drop (2 + 4 * l .entries) (l .file))) (l .number))
+    ≡ entry-at (parts-from (l .entries) (l .rows) (2 + 4 * l .entries) (drop (2 + 4 * l .entries) (l .file))) (l .number))
     × (4 * (l .entries - l .-before) ≤ length (l .rest))
     × (l .place + rows-length (l .entries - l .-before) (l .rest) ≡ length (l .file))
     × (known-rows (l .entries - l .-before) (l .rest) ≡ true)

@@ -10,6 +10,7 @@ pub returns-then-zero-ne0 : need.returns-then-zero-ne0
 returns-then-zero-ne0 c = row-wrong-zero (c .args .reader) (c .args .entries) (c .loop-row .row) (c .loop-row .rest .now) _ (c .loop-row-test .taken) (sym (c .if-not-takes .ensures tt)) (c .if-zero-ne0 .taken) (c .loop-row .inv .0)
 
 pub loop-row-again : need.loop-row-again
-loop-row-again c =
-    (row-right (c .args .reader) (c .args .entries) (c .loop-row .row) (c .loop-row .rest .now) _ (c .loop-row-test .taken) (sym (c .if-not-takes .ensures tt)) (c .if-zero-ne0 .left) (c .loop-row .inv .0),
-     rows-there (c .args .entries) (c .loop-row .row) (c .loop-row .rest .now) (c .loop-row-test .taken) (c .loop-row .inv .1))
+loop-row-again c = (
+  row-right (c .args .reader) (c .args .entries) (c .loop-row .row) (c .loop-row .rest .now) _ (c .loop-row-test .taken) (sym (c .if-not-takes .ensures tt)) (c .if-zero-ne0 .left) (c .loop-row .inv .0),
+  rows-there (c .args .entries) (c .loop-row .row) (c .loop-row .rest .now) (c .loop-row-test .taken) (c .loop-row .inv .1),
+)

@@ -8,6 +8,7 @@ returns-in-Some c =
     interlock-wrong (c .args .positions .now) (c .args .count) (c .loop-row .row) (c .loop-row .rest .now) _ (c .in-Some .fault) (c .loop-row-test .taken) (c .in-Some .ensures tt) (c .loop-row .inv .0)
 
 pub loop-row-again : need.loop-row-again
-loop-row-again c =
-    (interlock-right (c .args .positions .now) (c .args .count) (c .loop-row .row) (c .loop-row .rest .now) _ (c .loop-row-test .taken) (c .in-None .ensures tt) (c .loop-row .inv .0),
-     four-there (c .args .count) (c .loop-row .row) (c .loop-row .rest .now) (c .loop-row-test .taken) (c .loop-row .inv .1))
+loop-row-again c = (
+  interlock-right (c .args .positions .now) (c .args .count) (c .loop-row .row) (c .loop-row .rest .now) _ (c .loop-row-test .taken) (c .in-None .ensures tt) (c .loop-row .inv .0),
+  four-there (c .args .count) (c .loop-row .row) (c .loop-row .rest .now) (c .loop-row-test .taken) (c .loop-row .inv .1),
+)

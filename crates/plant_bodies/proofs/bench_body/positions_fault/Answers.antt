@@ -11,9 +11,10 @@ use Rattle.plant_bodies.proofs.bench_body.positions_fault.Needs.{then-number-l
 pub returns-then-number-lt2 : need.returns-then-number-lt2
 returns-then-number-lt2 c =
     let w : (ltb (getD (c .args .positions .now) (c .loop-valve .valve) 0) 2 || ltb 4 (getD (c .args .positions .now) (c .loop-valve .valve) 0)) ≡ true =
-      elim (c .then-number-lt2 .came) [
-        then-number-lt2·by·then-number-lt2 w ↦ or-left _ _ (lt-ltb _ _ (w .if-number-lt2 .taken))
-      | then-number-lt2·by·else-number-lt2·then-number-gt4 w ↦ or-right _ _ (lt-ltb _ _ (w .if-number-gt4 .taken)) ] in
+    elim (c .then-number-lt2 .came) [
+      | then-number-lt2·by·then-number-lt2 w ↦ or-left _ _ (lt-ltb _ _ (w .if-number-lt2 .taken))
+      | then-number-lt2·by·else-number-lt2·then-number-gt4 w ↦ or-right _ _ (lt-ltb _ _ (w .if-number-gt4 .taken))
+    ] in
     position-wrong (c .args .positions .now) (c .loop-valve .valve) _ (c .loop-valve-test .taken) w (c .loop-valve .inv)
 
 pub loop-valve-again : need.loop-valve-again

@@ -12,8 +12,9 @@ returns-in-Some c =
     (c .in-Some .ensures tt) (c .loop-row .inv .0)
 
 pub loop-row-again : need.loop-row-again
-loop-row-again c =
-    (link-right (c .args .stations) (c .args .count) (c .loop-row .row) (c .loop-row .rest .now) _ _ (c .loop-row-test .taken)
+loop-row-again c = (
+  link-right (c .args .stations) (c .args .count) (c .loop-row .row) (c .loop-row .rest .now) _ _ (c .loop-row-test .taken)
       (link-is (c .word-first .result) (c .word-second .result) (c .loop-row .rest .now) (omega (arith, field-2 0 (c .loop-row .rest .now))) (omega (arith, field-2 2 (c .loop-row .rest .now))))
       (c .in-None .ensures tt) (c .loop-row .inv .0),
-     four-there (c .args .count) (c .loop-row .row) (c .loop-row .rest .now) (c .loop-row-test .taken) (c .loop-row .inv .1))
+  four-there (c .args .count) (c .loop-row .row) (c .loop-row .rest .now) (c .loop-row-test .taken) (c .loop-row .inv .1),
+)

@@ -23,7 +23,7 @@ find-requires c κs =
       there = accepted-there _ _ a;
       whole = accepted-whole _ _ a;
       known = accepted-known _ _ a;
-      within = c .if-number-entries .left
+      within = c .if-number-entries .left;
     }
 
 pub returns : need.returns

@@ -23,5 +23,5 @@ returns-in-None c =
       refusal = c .in-None .ensures tt;
       sheet = refl;
       bytes = e;
-      written = λ bs rest w. subst (λ (buffer : List ℕ). Written (put-state s b) buffer (bs ++ b ∷ []) (drop (body-length b) rest)) (sym e) (written-more s b (c .args .buffer .now) few good bs rest w)
+      written = λ bs rest w. subst (λ (buffer : List ℕ). Written (put-state s b) buffer (bs ++ b ∷ []) (drop (body-length b) rest)) (sym e) (written-more s b (c .args .buffer .now) few good bs rest w);
     }
