@@ -6,23 +6,24 @@ use Prim.Native.Nat.{ℕ, zero, suc, _+_, _*_, _/_, _%_, _≤_, _<_}
 use native.Mathlib.Omega.{arith}
 use lib.ListN.{length, getD}
 use lib.Dec.{ltb}
+use Rattle.std.specs.Finite.{nth}
 use Rattle.std.specs.declared.option.Option.the-variants.{Some, None}
 use Rattle.std.proofs.shelf.Tests.{and-parts, and-from, ltb-true, lt-ltb}
 use Rattle.numbers.specs.Low.{low, value, Bytes}
 use Rattle.numbers.proofs.Laws.{value-low, low-value}
 use Rattle.sheet.specs.Steps.{all-below}
 use Rattle.sheet.specs.Bytes.{words}
-use Rattle.bodies.specs.StepsRead.{pairs, place-of}
+use Rattle.bodies.specs.StepsRead.{pairs}
 
 -- past the end
-pub pairs-past : (xs : List ℕ) (i : ℕ) → length xs / 2 ≤ i → None ≡ place-of (pairs xs) i
+pub pairs-past : (xs : List ℕ) (i : ℕ) → length xs / 2 ≤ i → None ≡ nth (pairs xs) i
 pairs-past [] i h = refl
 pairs-past (x ∷ []) i h = refl
 pairs-past (x ∷ (y ∷ zs)) zero h = absurd (omega arith)
 pairs-past (x ∷ (y ∷ zs)) (suc i) h = pairs-past zs i (omega arith)
 
 -- within
-pub pairs-at : (xs : List ℕ) (i : ℕ) → i < length xs / 2 → Some (value (getD xs (2 * i) 0 ∷ (getD xs (2 * i + 1) 0 ∷ []))) ≡ place-of (pairs xs) i
+pub pairs-at : (xs : List ℕ) (i : ℕ) → i < length xs / 2 → Some (value (getD xs (2 * i) 0 ∷ (getD xs (2 * i + 1) 0 ∷ []))) ≡ nth (pairs xs) i
 pairs-at [] i h = absurd (omega arith)
 pairs-at (x ∷ []) i h = absurd (omega arith)
 pairs-at (x ∷ (y ∷ zs)) zero h = refl

@@ -1,10 +1,8 @@
 -- What the bytes of a steps body say. Assumes nothing.
 use mathlib.Core.Path.{_≡_}
 use mathlib.Core.List.{List, [], _∷_}
-use Prim.Native.Nat.{ℕ, zero, suc}
+use Prim.Native.Nat.{ℕ}
 use lib.ListN.{getD, take, drop}
-use Rattle.std.specs.declared.option.Option.{Option}
-use Rattle.std.specs.declared.option.Option.the-variants.{Some, None}
 use Rattle.numbers.specs.Low.{value}
 use Rattle.sheet.specs.Steps.{Steps, steps}
 
@@ -17,12 +15,6 @@ pairs (x ∷ (y ∷ zs)) = value (x ∷ (y ∷ [])) ∷ pairs zs
 -- the answer, the count and the operations in a steps body
 abbrev pub steps-of : List ℕ → Steps
 steps-of bs = steps (getD bs 0 0) (value (take 8 (drop 2 bs))) (pairs (drop 10 bs))
-
--- what stands at a place of a list
-abbrev pub place-of : List ℕ → ℕ → Option ℕ
-place-of [] i = None
-place-of (x ∷ xs) zero = Some x
-place-of (x ∷ xs) (suc i) = place-of xs i
 
 -- these are the answer, the count and, as bytes, the operations of the body
 pub record Says (b : Steps) (a n : ℕ) (os : List ℕ) : Type 0 where

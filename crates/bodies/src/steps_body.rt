@@ -2,8 +2,9 @@
 ghost use mathlib.Core.Path.{_≡_};
 ghost use Prim.Native.Nat.{_<_};
 ghost use lib.ListN.{length};
+ghost use Rattle.std.specs.Finite.{nth};
 ghost use Rattle.std.specs.declared.option.Option.the-variants.{Some, None};
-ghost use Rattle.bodies.specs.StepsRead.{pairs, place-of, steps-of, Says};
+ghost use Rattle.bodies.specs.StepsRead.{pairs, steps-of, Says};
 use numbers::quad;
 use numbers::word;
 
@@ -31,7 +32,7 @@ pub fn steps_body<'a>(body: &'a [u8]) -> Option<StepsBody<'a>>
 
 // The operation at a place of the list, or none past its end.
 pub fn operation(operations: &[u8], place: usize) -> Option<u16>
-    ensures { λ r. ⌜ r ≡ place-of (pairs (now (operations .entry))) place ⌝ }
+    ensures { λ r. ⌜ r ≡ nth (pairs (now (operations .entry))) place ⌝ }
 {
     if place >= operations.len() / 2 {
         return None;

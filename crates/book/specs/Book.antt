@@ -22,9 +22,13 @@ abbrev pub steps-from : ℕ → List Part → Option ℕ
 steps-from i [] = None
 steps-from i (e ∷ es) = cond (eqb (e .kind) 4) (Some i) (steps-from (suc i) es)
 
+-- the entries of a file; none where it has a fault
+abbrev pub entries-in : Option FileFault → List ℕ → List Part
+entries-in (Some f) file = []
+entries-in None file = parts file
+
 abbrev pub first-steps : Option FileFault → List ℕ → Option ℕ
-first-steps (Some f) file = None
-first-steps None file = steps-from 0 (parts file)
+first-steps fault file = steps-from 0 (entries-in fault file)
 
 abbrev pub no-book : ℕ → FileFault
 no-book i = Contents (NoBook i)

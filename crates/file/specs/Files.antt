@@ -1,7 +1,8 @@
 -- What a file that was read tells. Assumes nothing.
-use mathlib.Core.List.{List, [], _∷_}
-use Prim.Native.Nat.{ℕ, zero, suc}
+use mathlib.Core.List.{List}
+use Prim.Native.Nat.{ℕ}
 use denote.Ref.{now}
+use Rattle.std.specs.Finite.{nth}
 use Rattle.std.specs.declared.option.Option.{Option}
 use Rattle.std.specs.declared.option.Option.the-variants.{Some, None}
 use Rattle.faults.specs.declared.fault.FileFault.{FileFault}
@@ -21,16 +22,10 @@ file-bytes f = now (f .bytes)
 abbrev pub file-fault : File → Option FileFault
 file-fault f = f .fault
 
--- the entry with a number, from 0
-abbrev pub entry-at : List Part → ℕ → Option Part
-entry-at [] n = None
-entry-at (e ∷ es) zero = Some e
-entry-at (e ∷ es) (suc n) = entry-at es n
-
--- none of a file with a fault
+-- the entry with a number, from 0; none of a file with a fault
 abbrev pub entry-of : Option FileFault → List ℕ → ℕ → Option Part
 entry-of (Some f) file n = None
-entry-of None file n = entry-at (parts file) n
+entry-of None file n = nth (parts file) n
 
 abbrev pub entries-of : Option FileFault → List ℕ → ℕ
 entries-of (Some f) file = 0

@@ -3,12 +3,13 @@ ghost use mathlib.Core.Path.{_≡_};
 ghost use mathlib.Core.Bool.{true, cond};
 ghost use Prim.Native.Nat.{_+_, _*_, _≤_, _<_};
 ghost use lib.ListN.{length, drop};
+ghost use Rattle.std.specs.Finite.{nth};
 ghost use Rattle.std.specs.Options.{isSome};
 ghost use Rattle.std.specs.declared.option.Option.the-variants.{Some, None};
 ghost use Rattle.file.specs.Kinds.{kind-of};
 ghost use Rattle.file.specs.Contents.{rows-length, known-rows};
 ghost use Rattle.file.specs.Parts.{part, parts-from};
-ghost use Rattle.file.specs.Files.{seen, entry-at};
+ghost use Rattle.file.specs.Files.{seen};
 use crate::entry::Entry;
 use crate::kind::Kind;
 use crate::kind::kind_of;
@@ -34,7 +35,7 @@ pub(crate) fn find<'a>(file: &'a [u8], rows: &[u8], entries: u8, number: u8) -> 
     requires whole { ⌜ (2 + 4 * entries) + rows-length entries (now rows) ≡ length (now file) ⌝ }
     requires known { ⌜ known-rows entries (now rows) ≡ true ⌝ }
     requires within { ⌜ number < entries ⌝ }
-    ensures { λ r. ⌜ seen r ≡ entry-at (parts-from entries (now (rows .entry)) (2 + 4 * entries) (drop (2 + 4 * entries) (now (file .entry)))) number ⌝ }
+    ensures { λ r. ⌜ seen r ≡ nth (parts-from entries (now (rows .entry)) (2 + 4 * entries) (drop (2 + 4 * entries) (now (file .entry)))) number ⌝ }
 {
     let mut rest = rows;
     let mut place = 2 + 4 * entries as usize;

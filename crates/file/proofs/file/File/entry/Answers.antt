@@ -2,7 +2,8 @@
 use mathlib.Core.Path.{_≡_, sym, _∙_, ap}
 use native.Mathlib.Omega.{arith}
 use lib.ListN.{drop}
-use Rattle.file.specs.Files.{entry-at, entry-of}
+use Rattle.std.specs.Finite.{nth}
+use Rattle.file.specs.Files.{entry-of}
 use Rattle.file.specs.Read.{entries, rows, contents-end}
 use Rattle.file.specs.Parts.{parts-from}
 use Rattle.file.proofs.CheckByCheck.{behind-head, behind-head-rows}
@@ -29,5 +30,5 @@ find-requires c κs =
 pub returns : need.returns
 returns c =
     c .find .ensures
-    ∙ (ap (λ rs. entry-at (parts-from (entries (c .args .self .now .bytes .now)) rs (contents-end (c .args .self .now .bytes .now)) (drop (contents-end (c .args .self .now .bytes .now)) (c .args .self .now .bytes .now))) (c .args .number)) (behind-head-rows (c .args .self .now .bytes .now))
+    ∙ (ap (λ rs. nth (parts-from (entries (c .args .self .now .bytes .now)) rs (contents-end (c .args .self .now .bytes .now)) (drop (contents-end (c .args .self .now .bytes .now)) (c .args .self .now .bytes .now))) (c .args .number)) (behind-head-rows (c .args .self .now .bytes .now))
     ∙ ap (λ o. entry-of o (c .args .self .now .bytes .now) (c .args .number)) (sym (c .in-None .is)))
