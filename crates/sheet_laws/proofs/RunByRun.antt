@@ -27,9 +27,10 @@ begun-written n buffer =
     let head : List ℕ = n ∷ (0 ∷ zeros (4 * n)) in
     let l : length (sheet-bytes n []) ≡ 2 + (4 * 0 + (4 * (n - 0) + 0)) = length-sheet n [] in
     let z : 4 * (n - 0) ≡ 4 * n = omega arith in
-    let s : sheet-bytes n [] ≡ head = ap (λ k. n ∷ (0 ∷ (zeros k ++ []))) z ∙ ap (λ t. n ∷ (0 ∷ t)) (append-nil (zeros (4 * n))) in
-    (drop (0 + length head) buffer,
-     record { filled = refl; end = omega arith; sound = refl; begins = ap (λ t. t ++ drop (0 + length head) buffer) (sym s) })
+    let s : sheet-bytes n [] ≡ head = ap (λ k. n ∷ (0 ∷ (zeros k ++ []))) z ∙ ap (λ t. n ∷ (0 ∷ t)) (append-nil (zeros (4 * n))) in (
+      drop (0 + length head) buffer,
+      record { filled = refl; end = omega arith; sound = refl; begins = ap (λ t. t ++ drop (0 + length head) buffer) (sym s) },
+    )
 
 -- each body that is put is behind those before
 pub after-written : (r : Run) (cs bs : List Steps) (rest : List ℕ) → all-fit bs ≡ true → Accepted r bs → Written (r .state) (r .buffer) cs rest →
