@@ -1,5 +1,5 @@
 -- The entry with a number, row by row. Assumes nothing.
-use mathlib.Core.Path.{_≡_, refl, sym, _∙_, ap}
+use mathlib.Core.Path.{_≡_, refl, sym, _∙_, ap, subst}
 use mathlib.Core.Bool.{true, _&&_, cond}
 use mathlib.Core.List.{List, [], _∷_}
 use Prim.Native.Nat.{ℕ, zero, suc, _+_, _-_, _*_, _≤_, _<_}
@@ -14,6 +14,9 @@ use Rattle.file.specs.Kinds.{kind-of}
 use Rattle.file.specs.Contents.{row-kind, row-length, known-rows}
 use Rattle.file.specs.Parts.{Part, part, parts-from}
 use Rattle.std.specs.Finite.{nth}
+use Rattle.faults.specs.declared.fault.FileFault.{FileFault}
+use Rattle.file.specs.Read.{entries, rows, contents-end}
+use Rattle.file.specs.Files.{entry-of, Stands-in}
 use Rattle.file.proofs.RowByRow.{left-more}
 
 -- one entry that is passed
@@ -55,3 +58,20 @@ pub entry-past : (e n : ℕ) (rs : List ℕ) (p : ℕ) (bs : List ℕ) → e ≤
 entry-past zero n rs p bs h = refl
 entry-past (suc e) zero rs p bs h = absurd (omega arith)
 entry-past (suc e) (suc n) rs p bs h = entry-past e n (drop 4 rs) (p + row-length rs) (drop (row-length rs) bs) (omega arith)
+
+-- as many bytes as were taken
+take-own : (k : ℕ) (xs : List ℕ) → take (length (take k xs)) xs ≡ take k xs
+take-own zero xs = refl
+take-own (suc k) [] = refl
+take-own (suc k) (x ∷ xs) = ap (λ t. x ∷ t) (take-own k xs)
+
+-- an entry is the part of the file that begins at its place
+pub parts-stand : (e : ℕ) (rs : List ℕ) (p : ℕ) (file : List ℕ) (n : ℕ) → Stands-in file (nth (parts-from e rs p (drop p file)) n)
+parts-stand zero rs p file n = tt
+parts-stand (suc e) rs p file zero = sym (take-own (row-length rs) (drop p file))
+parts-stand (suc e) rs p file (suc n) =
+    subst (λ (bs : List ℕ). Stands-in file (nth (parts-from e (drop 4 rs) (p + row-length rs) bs) n)) (sym (drop-drop (row-length rs) p file)) (parts-stand e (drop 4 rs) (p + row-length rs) file n)
+
+pub entry-stands : (o : Option FileFault) (file : List ℕ) (n : ℕ) → Stands-in file (entry-of o file n)
+entry-stands (Some f) file n = tt
+entry-stands None file n = parts-stand (entries file) (rows file) (contents-end file) file n

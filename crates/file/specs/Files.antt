@@ -1,6 +1,8 @@
 -- What a file that was read tells. Assumes nothing.
+use mathlib.Core.Path.{_≡_}
 use mathlib.Core.List.{List}
 use Prim.Native.Nat.{ℕ}
+use lib.ListN.{length, take, drop}
 use denote.Ref.{now}
 use Rattle.std.specs.Finite.{nth}
 use Rattle.std.specs.declared.option.Option.{Option}
@@ -41,3 +43,8 @@ as-part (Steps p b) = part 4 p (now b)
 abbrev pub seen : Option Entry → Option Part
 seen None = None
 seen (Some e) = Some (as-part e)
+
+-- an entry is the part of the file that begins at its place
+abbrev pub Stands-in : List ℕ → Option Part → Type 0
+Stands-in file None = Unit {0}
+Stands-in file (Some e) = e .bytes ≡ take (length (e .bytes)) (drop (e .place) file)

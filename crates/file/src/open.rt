@@ -1,7 +1,7 @@
 // Reading a file, and the entries of a file that was read.
 ghost use mathlib.Core.Path.{_≡_};
 ghost use Rattle.file.specs.Read.{read-fault};
-ghost use Rattle.file.specs.Files.{file-bytes, file-reader, file-fault, entries-of, entry-of, seen};
+ghost use Rattle.file.specs.Files.{file-bytes, file-reader, file-fault, entries-of, entry-of, seen, Stands-in};
 use crate::entry::Entry;
 use crate::file::File;
 use crate::find::find;
@@ -47,7 +47,8 @@ impl<'a> File<'a> {
 
     // The entry with a number, from 0; none past the last, and none where the file has a fault.
     pub fn entry(&self, number: u8) -> Option<Entry<'a>>
-        ensures { λ r. ⌜ seen r ≡ entry-of (file-fault (now (self .entry))) (file-bytes (now (self .entry))) number ⌝ }
+        ensures which { λ r. ⌜ seen r ≡ entry-of (file-fault (now (self .entry))) (file-bytes (now (self .entry))) number ⌝ }
+        ensures part { λ r. ⌜ Stands-in (file-bytes (now (self .entry))) (seen r) ⌝ }
     {
         match self.fault {
             Some(_) => return None,
