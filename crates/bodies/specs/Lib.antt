@@ -1,0 +1,3 @@
+pub mod StepsRule
+pub mod StepsRead
+pub mod JobRule

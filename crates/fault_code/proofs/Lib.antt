@@ -1,0 +1,2 @@
+pub mod BodyBytes
+pub mod FileBytes

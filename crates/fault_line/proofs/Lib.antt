@@ -1,0 +1,3 @@
+pub mod Numerals
+pub mod Pushes
+pub mod Examples

@@ -1,0 +1,2 @@
+pub mod BenchRule
+pub mod TrackRule

@@ -1,0 +1,3 @@
+pub mod ReadBack
+pub mod WriteBack
+pub mod Examples
