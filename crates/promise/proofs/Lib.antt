@@ -1,0 +1,7 @@
+pub mod Best
+pub mod Tags
+pub mod Hand
+pub mod Plans
+pub mod Refused
+pub mod Runs
+pub mod Promise
