@@ -1,0 +1,56 @@
+-- A call that the rules refuse or accept is carried out by them, and keeps the promise. Over any lawful meaning.
+use mathlib.Core.Path.{_≡_, refl, sym, ap, _∙_}
+use mathlib.Core.Bool.{Bool, true, false, cond}
+use mathlib.Core.List.{List, []}
+use Prim.Native.Nat.{ℕ, _≤_, _<_}
+use lib.Dec.{ltb}
+use Rattle.std.specs.declared.option.Option.{Option}
+use Rattle.std.specs.declared.option.Option.the-variants.{Some, None}
+use Rattle.std.specs.declared.result.Result.{Result}
+use Rattle.std.specs.declared.result.Result.the-variants.{Ok, Err}
+use Rattle.std.proofs.shelf.Tests.{lt-ltb, le-ltb}
+use Rattle.plant.specs.Meaning.{Meaning}
+use Rattle.plant.specs.Laws.{Lawful}
+use Rattle.plant.specs.declared.refusal.Refusal.{Refusal}
+use Rattle.plant.specs.declared.refusal.Refusal.the-variants.{NoSuchSetting, NoList}
+use Rattle.promise.specs.Calls.{Call}
+use Rattle.promise.specs.Readings.{Work}
+use Rattle.promise.specs.States.{State, drop-refusal, refusal, effect, unless-refused}
+use Rattle.promise.specs.Promise.{Keeps-on}
+use Rattle.promise.proofs.Promise.{keeps-on}
+use Rattle.sequencer.specs.State.{told, Carried}
+
+pub state-is : (a b : State) → a .setting ≡ b .setting → a .tags ≡ b .tags → a .list ≡ b .list → a ≡ b
+state-is a b s t l = λ i. record { setting = s i; tags = t i; list = l i }
+
+module _ (m : Meaning) (before : State) (k : Call) (after : State) (r : Result Unit Refusal) where
+  pub call-refused : (e y : Refusal) → refusal m before k ≡ Some e → r ≡ Err y → y ≡ e → after ≡ before → Carried m before k after r
+  call-refused e y is answered told-by same =
+      record {
+        answer = answered ∙ ap (λ x. Err x) told-by ∙ ap told (sym is);
+        state = same ∙ ap (λ x. unless-refused x before (effect m before k)) (sym is);
+      }
+
+  pub call-accepted : refusal m before k ≡ None → r ≡ Ok tt → after ≡ effect m before k → Carried m before k after r
+  call-accepted is answered changed =
+      record {
+        answer = answered ∙ ap told (sym is);
+        state = changed ∙ ap (λ x. unless-refused x before (effect m before k)) (sym is);
+      }
+
+  pub carried-on : Lawful m → Carried m before k after r → Keeps-on m before k after
+  carried-on lawful carried = keeps-on m lawful before k after (carried .state)
+
+-- whether a list is in hand
+pub none-in-hand : (held : Bool) (w : Work) → held ≡ false → drop-refusal (cond held (Some w) None) ≡ Some NoList
+none-in-hand held w is = ap (λ x. drop-refusal (cond x (Some w) None)) is
+
+pub one-in-hand : (held : Bool) (w : Work) → held ≡ true → drop-refusal (cond held (Some w) None) ≡ None
+one-in-hand held w is = ap (λ x. drop-refusal (cond x (Some w) None)) is
+
+-- whether there is such a setting
+pub setting-past : (n s : ℕ) → n ≤ s → cond (ltb s n) None (Some NoSuchSetting) ≡ Some NoSuchSetting
+setting-past n s h = ap (λ x. cond x None (Some NoSuchSetting)) (le-ltb s n h)
+
+pub setting-there : (n s : ℕ) → s < n → cond (ltb s n) None (Some NoSuchSetting) ≡ None
+setting-there n s h = ap (λ x. cond x None (Some NoSuchSetting)) (lt-ltb s n h)

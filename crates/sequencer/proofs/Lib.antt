@@ -1,0 +1,3 @@
+pub mod Between
+pub mod Touching
+pub mod Calls
