@@ -23,23 +23,27 @@ use Rattle.sequencer.specs.State.{told, Carried}
 pub state-is : (a b : State) → a .setting ≡ b .setting → a .tags ≡ b .tags → a .list ≡ b .list → a ≡ b
 state-is a b s t l = λ i. record { setting = s i; tags = t i; list = l i }
 
-module _ (m : Meaning) (before : State) (k : Call) (after : State) (r : Result Unit Refusal) where
-  pub call-refused : (e y : Refusal) → refusal m before k ≡ Some e → r ≡ Err y → y ≡ e → after ≡ before → Carried m before k after r
+-- carried out by the rules, with the promise kept
+abbrev Done-by-rules : Meaning → State → Call → State → Result Unit Refusal → Type 0
+Done-by-rules m before k after r = Carried m before k after r × Keeps-on m before k after
+
+module _ (m : Meaning) (lawful : Lawful m) (before : State) (k : Call) (after : State) (r : Result Unit Refusal) where
+  kept : Carried m before k after r → Done-by-rules m before k after r
+  kept carried = (carried, keeps-on m lawful before k after (carried .state))
+
+  pub call-refused : (e y : Refusal) → refusal m before k ≡ Some e → r ≡ Err y → y ≡ e → after ≡ before → Done-by-rules m before k after r
   call-refused e y is answered told-by same =
-      record {
+      kept record {
         answer = answered ∙ ap (λ x. Err x) told-by ∙ ap told (sym is);
         state = same ∙ ap (λ x. unless-refused x before (effect m before k)) (sym is);
       }
 
-  pub call-accepted : refusal m before k ≡ None → r ≡ Ok tt → after ≡ effect m before k → Carried m before k after r
+  pub call-accepted : refusal m before k ≡ None → r ≡ Ok tt → after ≡ effect m before k → Done-by-rules m before k after r
   call-accepted is answered changed =
-      record {
+      kept record {
         answer = answered ∙ ap told (sym is);
         state = changed ∙ ap (λ x. unless-refused x before (effect m before k)) (sym is);
       }
-
-  pub carried-on : Lawful m → Carried m before k after r → Keeps-on m before k after
-  carried-on lawful carried = keeps-on m lawful before k after (carried .state)
 
 -- whether a list is in hand
 pub none-in-hand : (held : Bool) (w : Work) → held ≡ false → drop-refusal (cond held (Some w) None) ≡ Some NoList

@@ -5,7 +5,9 @@ use self::table::Table;
 use tagged::tagged::Tagged;
 
 mod table;
-pub mod calls;
+pub mod setting;
+pub mod tagging;
+pub mod listing;
 pub mod questions;
 
 #[derive(Drop)]

@@ -7,13 +7,6 @@ use crate::sequencer::Sequencer;
 use plant::plant::Plant;
 
 impl<P: Plant> Sequencer<P> {
-    // The plant below, without the sequencer's own tags.
-    pub fn below(&self) -> &P
-        ensures { λ r. ⌜ now r ≡ under (now (self .entry)) ⌝ }
-    {
-        self.plant.below()
-    }
-
     // The present setting.
     pub fn setting(&self) -> u32
         ensures { λ r. ⌜ r ≡ state-of (now (self .entry)) .setting ⌝ }
