@@ -15,7 +15,8 @@ use Rattle.legs.specs.Kinds.{Kind, Tells}
 use Rattle.legs.specs.Layers.{Leg, has, fits, grown, layer, In}
 use Rattle.legs.specs.Laws.{Holds, Reached-in}
 use Rattle.legs.specs.Lists.{Earlier, Earliest}
-use Rattle.legs.specs.Relays.{Relayed, relays}
+use Rattle.legs.specs.declared.relayed.Relayed.{Relayed}
+use Rattle.legs.specs.Relays.{relays}
 use Rattle.legs.proofs.Members.{has-told, in-map, map-in}
 use Rattle.legs.proofs.Tells.{layer-settings, in-layer}
 use Rattle.legs.proofs.Kept.{kept-in}

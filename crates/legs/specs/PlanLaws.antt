@@ -14,7 +14,8 @@ use Rattle.plant.specs.declared.refusal.Refusal.the-variants.{NoSuchSetting, Bo
 use Rattle.legs.specs.Layers.{Leg, In, layer}
 use Rattle.legs.specs.Legs.{leg-length, expanded, need}
 use Rattle.legs.specs.Lists.{Linked, Distance, Earliest, earliest, after}
-use Rattle.legs.specs.Relays.{Relayed, relays}
+use Rattle.legs.specs.declared.relayed.Relayed.{Relayed}
+use Rattle.legs.specs.Relays.{relays}
 use Rattle.legs.specs.Answers.{Counted, measured}
 use Rattle.legs.specs.Plans.{halfway, fetch-leg, fetch-legs, plan-legs, count, planned}
 

@@ -2,11 +2,8 @@
 use mathlib.Core.Bool.{cond}
 use Prim.Native.Nat.{ℕ, _/_}
 use lib.Dec.{eqb}
+use Rattle.legs.specs.declared.relayed.Relayed.{Relayed}
 use Rattle.legs.specs.Kinds.{Kind}
-
-pub record Relayed : Type 0 where
-  pub setting : ℕ
-  pub relay : ℕ
 
 -- for a leg of length n: a record gets its own setting as relay where it enters layer n / 2, and hands it on; before
 -- that the relay is 0

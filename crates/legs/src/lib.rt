@@ -3,6 +3,8 @@
 ghost use Rattle.legs.specs.Laws.{Legs-lawful};
 ghost use Rattle.legs.specs.PlanLaws.{Plans-lawful};
 
+pub mod relayed;
+
 // Carries the laws of legs: layers are what the rules say, a setting is in at most one, three layers are enough to
 // find every duplicate, and a leg's length is the least length of a list within the bound.
 pub fn legs_lawful() -> u8

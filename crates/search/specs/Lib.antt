@@ -1,0 +1,6 @@
+pub mod Records
+pub mod Places
+pub mod Stored
+pub mod Leg
+pub mod Offered
+pub mod Stands

@@ -1,0 +1,45 @@
+// A leg from its first layer to its end.
+ghost use mathlib.Core.Path.{_≡_};
+ghost use mathlib.Core.List.{[], map};
+ghost use denote.Ref.{name};
+ghost use Prim.Native.Nat.{_≤_, _<_};
+ghost use lib.ListN.{length, take, drop};
+ghost use Rattle.legs.specs.Legs.{ends as over-at};
+ghost use Rattle.search.specs.Places.{Place};
+ghost use Rattle.search.specs.Records.{kind};
+ghost use Rattle.search.specs.Leg.{leg-of};
+ghost use Rattle.search.specs.Stored.{room-of, count, Ready};
+ghost use Rattle.search.specs.Stands.{Stands, Begun};
+use crate::leg::Leg;
+use crate::lookup::Lookup;
+use crate::lookup::first_place;
+use crate::record::Record;
+use crate::store::Store;
+use plant::plant::Plant;
+
+impl<'a, R: Record> Store<'a, R> {
+    // The first layer: the start, if it fits.
+    pub(crate) fn begin<P: Plant, L: Lookup<R>>(&mut self, lookup: &mut L, plant: &P, leg: &Leg)
+        requires ready { ⌜ Ready (R·Record .tells) (L·Lookup .follows (now lookup)) (now self) ⌝ }
+        requires empty { ⌜ count (now self) ≡ 0 ⌝ }
+        requires some { ⌜ 1 ≤ length (room-of (now self)) ⌝ }
+        ensures begun { λ _. ⌜ Begun (R·Record .tells) (L·Lookup .follows (now (lookup .exit))) (meaning (now (plant .entry))) (kind (R·Record .tells) (R·Record .opens) (R·Record .carries) (now (leg .entry) .half)) (leg-of (now (leg .entry))) (now (self .entry)) (now (self .exit)) ⌝ }
+        ensures lender { λ _. ⌜ name (now (self .exit) .room) ≡ name (now (self .entry) .room) ⌝ }
+    {
+        if leg.admits(plant, 0, leg.start) {
+            let _ = self.push(lookup, R::open(leg.start));
+            self.present = 1;
+            self.next = 0;
+        }
+    }
+
+    // The place of a setting in the present layer.
+    pub(crate) fn find(&self, setting: u32) -> Option<usize>
+        requires { ⌜ count (now self) ≤ length (room-of (now self)) ⌝ }
+        ensures { λ r. ⌜ Place (map (R·Record .tells) (take (now (self .entry) .present) (drop (now (self .entry) .before) (room-of (now (self .entry)))))) setting r ⌝ }
+    {
+        let front = self.before;
+        let end = self.before + self.present;
+        first_place(&self.room[front..end], setting)
+    }
+}
