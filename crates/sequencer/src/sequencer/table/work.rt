@@ -59,7 +59,7 @@ impl Table {
         ensures { λ _. ⌜ work-in (now (self .exit)) ≡ spared (meaning (now (plant .entry))) operation (work-in (now (self .entry))) ⌝ }
     {
         if touched(plant, &self.operations[self.begins as usize..self.ends as usize], operation) {
-            self.held = false;
+            self.forget();
         }
     }
 
