@@ -1,5 +1,6 @@
 pub mod Best
 pub mod Tags
+pub mod Since
 pub mod Hand
 pub mod Plans
 pub mod Refused

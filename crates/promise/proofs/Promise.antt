@@ -20,6 +20,7 @@ use Rattle.promise.specs.Calls.{Call, accepted-first, accepted}
 use Rattle.promise.specs.Readings.{Work, setting-of, untagged-plant, leg-of}
 use Rattle.promise.specs.States.{State, asked, refusal, effect, unless-refused, next, after-calls, history}
 use Rattle.promise.specs.Promise.{Best, Answered, Enough, Holds, Promise-kept, Keeps-on}
+use Rattle.promise.proofs.Since.{tagged-since, since-tagged}
 use Rattle.promise.proofs.Plans.{refused-rightly, accepted-otherwise}
 use Rattle.promise.proofs.Runs.{Kept, same-plant, kept-fresh, kept-on}
 
@@ -29,6 +30,7 @@ module _ (m : Meaning) (lawful : Lawful m) where
       record {
         setting-told = kept .setting-is;
         tags-told = kept .tags-are;
+        tags-since = λ o. (tagged-since m o ks, since-tagged m o ks);
         list-told = kept .told;
         list-best = λ w e.
             subst (λ s. Best (untagged-plant m ks) s (w .target) (w .to-do)) (kept .setting-is)

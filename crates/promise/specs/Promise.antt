@@ -17,7 +17,7 @@ use Rattle.legs.specs.Lists.{Earlier}
 use Rattle.legs.specs.Answers.{Counted}
 use Rattle.legs.specs.Plans.{plan-legs, count}
 use Rattle.promise.specs.Calls.{Call, accepted}
-use Rattle.promise.specs.Readings.{Work, setting-of, tagged-in, untagged-plant, leg-of, In-hand}
+use Rattle.promise.specs.Readings.{Work, setting-of, tagged-in, Tagged-since, untagged-plant, leg-of, In-hand}
 use Rattle.promise.specs.States.{State, asked, next, after-calls, history}
 
 -- the list leads from s to t; every other that does has at least as many operations, and those with as many come later
@@ -53,6 +53,7 @@ pub record Holds (m : Meaning) (ks : List Call) (q : State) : Type 0 where
   -- the setting and the tags are those read from the accepted calls alone
   pub setting-told : q .setting ≡ setting-of m ks
   pub tags-told : (o : ℕ) → bears m (q .tags) o ≡ tagged-in m ks o
+  pub tags-since : (o : ℕ) → (tagged-in m ks o ≡ true) ↔ Tagged-since m ks o
   -- a list is in hand exactly when the accepted calls say so, and is what they leave of it
   pub list-told : (w : Work) → (q .list ≡ Some w) ↔ In-hand m ks w
   -- it is the earliest of the shortest from the present setting to its target, by untagged operations

@@ -1,7 +1,7 @@
 -- What the accepted calls alone, the newest first, tell of the setting, the tags and the list in hand. Assumes nothing.
 use mathlib.Core.Path.{_≡_}
 use mathlib.Core.Bool.{Bool, true, false, not, cond, _&&_, _||_}
-use mathlib.Core.List.{List, [], _∷_}
+use mathlib.Core.List.{List, [], _∷_, _++_}
 use Prim.Native.Nat.{ℕ, zero, suc}
 use lib.ListN.{drop}
 use Rattle.std.specs.declared.option.Option.{Option}
@@ -34,6 +34,25 @@ tagged-in m (plan t b n ∷ ks) k = tagged-in m ks k
 tagged-in m (done o ∷ ks) k = tagged-in m ks k
 tagged-in m (drop-list ∷ ks) k = tagged-in m ks k
 tagged-in m (hand-move s ∷ ks) k = tagged-in m ks k
+
+-- no untag among the calls covers operation k
+abbrev pub None-frees : Meaning → ℕ → List Call → Type 0
+None-frees m k [] = Unit {0}
+None-frees m k (tag o ∷ ks) = None-frees m k ks
+None-frees m k (untag o ∷ ks) = (covers m o k ≡ false) × None-frees m k ks
+None-frees m k (plan t b n ∷ ks) = None-frees m k ks
+None-frees m k (done o ∷ ks) = None-frees m k ks
+None-frees m k (drop-list ∷ ks) = None-frees m k ks
+None-frees m k (hand-move s ∷ ks) = None-frees m k ks
+
+-- the same as a relation: a tag on o covered operation k, and no untag has since
+pub record Tagged-since (m : Meaning) (ks : List Call) (k : ℕ) : Type 0 where
+  pub since : List Call
+  pub o : ℕ
+  pub before : List Call
+  pub calls : ks ≡ since ++ (tag o ∷ before)
+  pub covered : covers m o k ≡ true
+  pub not-freed : None-frees m k since
 
 -- the plant with some operations taken out
 abbrev pub without : Meaning → (ℕ → Bool) → Meaning
