@@ -4,3 +4,5 @@ pub mod Stored
 pub mod Leg
 pub mod Offered
 pub mod Stands
+pub mod Walked
+pub mod Answered

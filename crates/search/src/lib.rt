@@ -6,3 +6,6 @@ pub mod store;
 pub mod fill;
 pub mod moves;
 pub mod walk;
+pub mod one_leg;
+pub mod clear;
+pub mod leg_search;

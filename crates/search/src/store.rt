@@ -8,6 +8,7 @@ ghost use Rattle.search.specs.Stored.{standing, Ready, Pushed};
 use crate::lookup::Lookup;
 use crate::record::Record;
 
+#[derive(Drop)]
 pub(crate) struct Store<'a, R: Record> {
     pub(crate) room: &'a mut [R],
     // how many records each layer has

@@ -1,0 +1,3 @@
+pub mod Lowest
+pub mod Fetched
+pub mod Planned
