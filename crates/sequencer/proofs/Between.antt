@@ -80,7 +80,7 @@ pub first-right :
     → (done-refusal o (work held t (between os b e)) ≡ None) × (work held t (between os (b + 1) e) ≡ moved-on (work held t (between os b e)))
 first-right held t os b e o is less h first = (
   ap (λ x. done-refusal o (work x t (between os b e))) is ∙ ap (not-first o) (between-first os b e less h)
-  ∙ ap (λ x. cond x None (Some WrongOperation)) (eq-eqb o (getD os b 0) (sym first)),
+      ∙ ap (λ x. cond x None (Some WrongOperation)) (eq-eqb o (getD os b 0) (sym first)),
   ap (λ x. work x t (between os (b + 1) e)) is
-  ∙ sym (ap (λ x. moved-on (work x t (between os b e))) is ∙ ap (λ l. Some (record { target = t; to-do = behind-first l })) (between-first os b e less h)),
+      ∙ sym (ap (λ x. moved-on (work x t (between os b e))) is ∙ ap (λ l. Some (record { target = t; to-do = behind-first l })) (between-first os b e less h)),
 )

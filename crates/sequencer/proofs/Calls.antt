@@ -13,9 +13,10 @@ use Rattle.plant.specs.Meaning.{Meaning}
 use Rattle.plant.specs.Laws.{Lawful}
 use Rattle.plant.specs.declared.refusal.Refusal.{Refusal}
 use Rattle.plant.specs.declared.refusal.Refusal.the-variants.{NoSuchSetting, NoList}
-use Rattle.promise.specs.Calls.{Call}
+use Rattle.legs.specs.Answers.{Counted}
+use Rattle.promise.specs.Calls.{Call, plan}
 use Rattle.promise.specs.Readings.{Work}
-use Rattle.promise.specs.States.{State, drop-refusal, refusal, effect, unless-refused}
+use Rattle.promise.specs.States.{State, asked, refusal-of, drop-refusal, refusal, replaced, effect, unless-refused, next}
 use Rattle.promise.specs.Promise.{Keeps-on}
 use Rattle.promise.proofs.Promise.{keeps-on}
 use Rattle.sequencer.specs.State.{told, Carried}
@@ -58,3 +59,18 @@ setting-past n s h = ap (λ x. cond x None (Some NoSuchSetting)) (le-ltb s n h)
 
 pub setting-there : (n s : ℕ) → s < n → cond (ltb s n) None (Some NoSuchSetting) ≡ None
 setting-there n s h = ap (λ x. cond x None (Some NoSuchSetting)) (lt-ltb s n h)
+
+-- a plan leaves the state that the rules say, whatever it answers
+abbrev with-list : State → Option Work → State
+with-list q x = record { setting = q .setting; tags = q .tags; list = x }
+
+either-way :
+    (q : State) (t : ℕ) (r : Result (Counted (List ℕ)) Refusal)
+    → with-list q (replaced t (q .list) r) ≡ unless-refused (refusal-of r) q (with-list q (replaced t (q .list) r))
+either-way q t (Ok a) = refl
+either-way q t (Err e) = refl
+
+pub plan-next :
+    (m : Meaning) (before : State) (t b n : ℕ) (list : Option Work) → list ≡ replaced t (before .list) (asked m before t b n)
+    → with-list before list ≡ next m before (plan t b n)
+plan-next m before t b n list is = ap (with-list before) is ∙ either-way before t (asked m before t b n)

@@ -1,5 +1,6 @@
 -- The state that a sequencer is in, and what a call on it answers and leaves. Assumes nothing.
 use mathlib.Core.Path.{_≡_}
+use Prim.Native.Nat.{ℕ}
 use Rattle.std.specs.declared.option.Option.{Option}
 use Rattle.std.specs.declared.option.Option.the-variants.{Some, None}
 use Rattle.std.specs.declared.result.Result.{Result}
@@ -7,10 +8,10 @@ use Rattle.std.specs.declared.result.Result.the-variants.{Ok, Err}
 use Rattle.plant.specs.Meaning.{Meaning}
 use Rattle.plant.specs.declared.refusal.Refusal.{Refusal}
 use Rattle.tagged.specs.Tagged.{tags-of, below-of}
-use Rattle.promise.specs.Calls.{Call}
-use Rattle.promise.specs.States.{State, refusal, next}
+use Rattle.promise.specs.Calls.{Call, plan}
+use Rattle.promise.specs.States.{State, asked, refusal, next}
 use Rattle.sequencer.specs.declared.sequencer.Sequencer.{Sequencer}
-use Rattle.sequencer.specs.Table.{work-in}
+use Rattle.sequencer.specs.Table.{work-in, count-of}
 
 abbrev pub state-of : {P : Type 0} → Sequencer P → State
 state-of x = record { setting = x .setting; tags = tags-of (x .plant); list = work-in (x .list) }
@@ -28,3 +29,8 @@ told (Some e) = Err e
 pub record Carried (m : Meaning) (before : State) (k : Call) (after : State) (r : Result Unit Refusal) : Type 0 where
   pub answer : r ≡ told (refusal m before k)
   pub state : after ≡ next m before k
+
+-- a plan answers its count or its refusal, and changes the state by the rules
+pub record Planned (m : Meaning) (before : State) (t b n : ℕ) (after : State) (r : Result ℕ Refusal) : Type 0 where
+  pub answer : r ≡ count-of (asked m before t b n)
+  pub state : after ≡ next m before (plan t b n)

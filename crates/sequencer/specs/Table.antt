@@ -10,7 +10,8 @@ use Rattle.std.specs.declared.result.Result.{Result}
 use Rattle.std.specs.declared.result.Result.the-variants.{Ok, Err}
 use Rattle.plant.specs.declared.refusal.Refusal.{Refusal}
 use Rattle.promise.specs.Readings.{Work}
-use Rattle.promise.specs.States.{done-refusal, moved-on}
+use Rattle.legs.specs.Answers.{Counted}
+use Rattle.promise.specs.States.{done-refusal, moved-on, replaced}
 use Rattle.sequencer.specs.declared.sequencer.table.Table.{Table}
 
 -- the operations between two places
@@ -25,3 +26,13 @@ work-in x = cond (x .held) (Some (record { target = x .target; to-do = between (
 abbrev pub Moves : Option Work → ℕ → Option Work → Result Unit Refusal → Type 0
 Moves before o after (Ok _) = (done-refusal o before ≡ None) × (after ≡ moved-on before)
 Moves before o after (Err e) = (done-refusal o before ≡ Some e) × (after ≡ before)
+
+-- what a plan answers: its count
+abbrev pub count-of : Result (Counted (List ℕ)) Refusal → Result ℕ Refusal
+count-of (Ok a) = Ok (a .count)
+count-of (Err e) = Err e
+
+-- by the answer of a plan, the list and its target are replaced and its count is told, or nothing changes
+pub record Fills (planned : Result (Counted (List ℕ)) Refusal) (t : ℕ) (before after : Option Work) (r : Result ℕ Refusal) : Type 0 where
+  pub answer : r ≡ count-of planned
+  pub list : after ≡ replaced t before planned

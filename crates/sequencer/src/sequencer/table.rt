@@ -1,6 +1,7 @@
 // The list in hand: a table of operations, of which those from `begins` to `ends` are still to be done.
 ghost use Prim.Native.Nat.{_≤_};
 
+pub mod filling;
 pub mod work;
 
 #[derive(Drop)]

@@ -58,7 +58,11 @@ impl Table {
     pub(crate) fn spare<P: Plant>(&mut self, plant: &P, operation: u16)
         ensures { λ _. ⌜ work-in (now (self .exit)) ≡ spared (meaning (now (plant .entry))) operation (work-in (now (self .entry))) ⌝ }
     {
-        if touched(plant, &self.operations[self.begins as usize..self.ends as usize], operation) {
+        if touched(
+            plant,
+            &self.operations[self.begins as usize..self.ends as usize],
+            operation,
+        ) {
             self.forget();
         }
     }
@@ -74,7 +78,11 @@ impl Table {
     pub(crate) fn length(&self) -> Option<u16>
         ensures { λ r. ⌜ r ≡ length-of (work-in (now (self .entry))) ⌝ }
     {
-        if self.held { Some(self.ends - self.begins) } else { None }
+        if self.held {
+            Some(self.ends - self.begins)
+        } else {
+            None
+        }
     }
 
     // The operation at a place among those still to be done.
