@@ -1,0 +1,4 @@
+pub mod Between
+pub mod Touching
+pub mod Filling
+pub mod Calls
