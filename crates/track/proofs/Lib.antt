@@ -1,3 +1,4 @@
 pub mod Used
 pub mod Rows
 pub mod Laws
+pub mod Faultless

@@ -7,6 +7,7 @@ ghost use Rattle.std.specs.Options.{isSome};
 ghost use Rattle.track.specs.Fault.{fault};
 use crate::link::Link;
 
+pub mod check;
 pub mod making;
 pub mod questions;
 
