@@ -40,8 +40,10 @@ module _ (m : Meaning) (lawful : Lawful m) where
       empty-way : (os : List ℕ) → length os ≡ 0 → Leads m s os t → s ≡ t
       empty-way [] l h = h
       empty-way (o ∷ os) l h = absurd (omega arith)
+
       same : s ≡ t
       same = empty-way (d .0 .0) (d .0 .1 ∙ zero-long) (d .0 .2)
+
       found : earliest m n s t ≡ Some list
       found =
           ap (λ k. earliest m k s t) zero-long ∙ ap (earliest m 0 s) (sym same) ∙ earliest-zero m lawful s
@@ -85,6 +87,7 @@ module _ (m : Meaning) (lawful : Lawful m) where
       where
         accepted-then : need m (fetch-leg n s t) ≤ records → measured m (fetch-leg n s t) records ≡ Ok (record { found = n; count = expanded m (fetch-leg n s t) })
         accepted-then enough = plans-lawful m lawful .measures .accepted (fetch-leg n s t) records (record { found = n; count = expanded m (fetch-leg n s t) }) .1 (in-range, enough, ((omega arith, d), refl))
+
         not-refused : measured m (fetch-leg n s t) records ≡ Ok (record { found = n; count = expanded m (fetch-leg n s t) }) → ⊥
         not-refused ok = let clash : _≡_ {A = ℕ} 0 1 = cc in omega arith
 
@@ -126,8 +129,9 @@ module _ (m : Meaning) (lawful : Lawful m) where
           → Fetched m n s t records (os ++ ps) (Some (a .count + b + c))
       fetched-both h b c os ps e front back =
           let one = subst (λ x. Fetched m (n / 2) s x records os (Some b)) e front in
-          let other = subst (λ x. Fetched m (n - n / 2) x t records ps (Some c)) e back in
-          (halves-joined m lawful n s t os ps d (one .0) (other .0),
-           omega (arith, one .1, other .1, right .2 .1, fetch-count m n s t two),
-           omega (arith, one .2, other .2, right .1, fetch-need m n s t two),
-           omega (arith, one .3, other .3, leg-few))
+          let other = subst (λ x. Fetched m (n - n / 2) x t records ps (Some c)) e back in (
+            halves-joined m lawful n s t os ps d (one .0) (other .0),
+            omega (arith, one .1, other .1, right .2 .1, fetch-count m n s t two),
+            omega (arith, one .2, other .2, right .1, fetch-need m n s t two),
+            omega (arith, one .3, other .3, leg-few),
+          )

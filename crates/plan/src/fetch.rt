@@ -12,7 +12,14 @@ use search::record::RelayedRecord;
 
 // Writes the earliest list of `count` operations, which is the least length, from start to target; answers the settings
 // expanded, or none where a leg needs more records than there are.
-pub(crate) fn fetch<P: Plant>(plant: &P, count: usize, start: u32, target: u32, records: &mut [Relayed], list: &mut [u16]) -> Option<u64>
+pub(crate) fn fetch<P: Plant>(
+    plant: &P,
+    count: usize,
+    start: u32,
+    target: u32,
+    records: &mut [Relayed],
+    list: &mut [u16],
+) -> Option<u64>
     requires start { ⌜ start < meaning (now plant) .settings ⌝ }
     requires target { ⌜ target < meaning (now plant) .settings ⌝ }
     requires short { ⌜ count ≤ 255 ⌝ }
@@ -38,7 +45,14 @@ pub(crate) fn fetch<P: Plant>(plant: &P, count: usize, start: u32, target: u32, 
     let Some(first) = fetch(plant, half, start, relay, records, &mut list[0..half]) else {
         return None;
     };
-    let Some(second) = fetch(plant, count - half, relay, target, records, &mut list[half..count]) else {
+    let Some(second) = fetch(
+        plant,
+        count - half,
+        relay,
+        target,
+        records,
+        &mut list[half..count],
+    ) else {
         return None;
     };
     Some(reached.expanded + first + second)

@@ -28,7 +28,14 @@ pub struct Planned {
 // it. Refused, in this order, where the start or the target is no setting, the bound is above 255, some leg needs more
 // records than there are, or no list within the bound leads there; the place then stays as it was. After a search,
 // refused or not, every record is zero; else they are as they were.
-pub fn plan<P: Plant>(plant: &P, start: u32, target: u32, bound: u16, records: &mut [Relayed], list: &mut [u16; 255]) -> Result<Planned, Refusal>
+pub fn plan<P: Plant>(
+    plant: &P,
+    start: u32,
+    target: u32,
+    bound: u16,
+    records: &mut [Relayed],
+    list: &mut [u16; 255],
+) -> Result<Planned, Refusal>
     ensures answer { λ r. ⌜ Answers (meaning (now (plant .entry))) (leg start target bound) (length (now (records .entry))) (now (list .entry)) (now (list .exit)) r ⌝ }
     ensures records { λ _. ⌜ now (records .exit) ≡ search-leaves relay-blank (meaning (now (plant .entry))) (leg start target bound) (now (records .entry)) ⌝ }
     ensures laws { λ _. ⌜ Plan-laws (meaning (now (plant .entry))) ⌝ }
@@ -48,7 +55,14 @@ pub fn plan<P: Plant>(plant: &P, start: u32, target: u32, bound: u16, records: &
 }
 
 // The first leg, and the list of its length fetched into a place of zeros.
-fn find_list<P: Plant>(plant: &P, start: u32, target: u32, bound: u16, records: &mut [Relayed], place: &mut [u16]) -> Result<Planned, Refusal>
+fn find_list<P: Plant>(
+    plant: &P,
+    start: u32,
+    target: u32,
+    bound: u16,
+    records: &mut [Relayed],
+    place: &mut [u16],
+) -> Result<Planned, Refusal>
     requires { ⌜ now place ≡ replicate 255 0 ⌝ }
     ensures found { λ r. ⌜ Found (meaning (now (plant .entry))) (leg start target bound) (length (now (records .entry))) (now (place .exit)) r ⌝ }
     ensures kept { λ _. ⌜ ((outside (meaning (now (plant .entry))) (leg start target bound) || too-high (leg start target bound)) ≡ true → now (records .exit) ≡ now (records .entry)) ⌝ }

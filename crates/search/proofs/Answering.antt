@@ -80,8 +80,9 @@ module _ {R : Type 0} (m : Meaning) (k : Kind R) (g : Leg) (records : ℕ) where
     refused-answer WrongOperation h = absurd h
 
     pub answers-within : (r : Result (Reached R) Refusal) → Searched m k g records r → Leg-answer m k g records r
-    answers-within (Ok x) h =
-        (within ∙ ap (λ b. answer false false b (leg-length m g) (expanded m g)) (le-ltb records (need m g) (h .0))
-         ∙ ap (λ o. answer false false false o (expanded m g)) (h .1) ∙ ap (λ n. Ok (record { found = x .length; count = n })) (sym (h .2)),
-         h .3)
+    answers-within (Ok x) h = (
+      within ∙ ap (λ b. answer false false b (leg-length m g) (expanded m g)) (le-ltb records (need m g) (h .0))
+          ∙ ap (λ o. answer false false false o (expanded m g)) (h .1) ∙ ap (λ n. Ok (record { found = x .length; count = n })) (sym (h .2)),
+      h .3,
+    )
     answers-within (Err e) h = refused-answer e h

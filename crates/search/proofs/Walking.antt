@@ -57,8 +57,8 @@ module _ {R : Type 0} (m : Meaning) (lawful : Lawful m) (k : Kind R) (t : Tells 
   advance-stands F d s s′ a b =
       record {
         layers =
-          b .left ∙ ap (drop (s .before)) (a .layers) ∙ drop-at (layer-before m k g d) (layer m k g d ++ layer m k g (suc d)) (s .before) (sym (a .befores))
-          ∙ ap (λ xs. layer m k g d ++ xs) (sym (append-nil (layer m k g (suc d))));
+            b .left ∙ ap (drop (s .before)) (a .layers) ∙ drop-at (layer-before m k g d) (layer m k g d ++ layer m k g (suc d)) (s .before) (sym (a .befores))
+            ∙ ap (λ xs. layer m k g d ++ xs) (sym (append-nil (layer m k g (suc d))));
         befores = b .befores ∙ a .presents;
         presents = b .presents ∙ a .nexts-are;
         nexts-are = b .nexts;
@@ -94,9 +94,9 @@ module _ {R : Type 0} (m : Meaning) (lawful : Lawful m) (k : Kind R) (t : Tells 
         used-is = omega (arith, w .used-is, standing-now);
         used-fits = omega (arith, w .used-fits, kept .ready .within, kept .long, w .long);
         behind =
-          drop-further (count s₁) (max used (count s₁)) (room-of s₂) (room-of s₁) high (gone .behind)
-          ∙ drop-further (count s₁) (max used (count s₁)) (room-of s₁) (room-of s) high (kept .behind)
-          ∙ drop-further used (max used (count s₁)) (room-of s) (room-of s₀) low (w .behind);
+            drop-further (count s₁) (max used (count s₁)) (room-of s₂) (room-of s₁) high (gone .behind)
+            ∙ drop-further (count s₁) (max used (count s₁)) (room-of s₁) (room-of s) high (kept .behind)
+            ∙ drop-further used (max used (count s₁)) (room-of s) (room-of s₀) low (w .behind);
       }
 
   -- a leg that is not over at its depth goes below its end

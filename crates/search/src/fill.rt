@@ -17,7 +17,15 @@ use plant::plant::Plant;
 
 impl<'a, R: Record> Store<'a, R> {
     // Takes in a setting that a step led to, unless it is met already or does not fit. False where there is no place.
-    pub(crate) fn offer<P: Plant, L: Lookup<R>>(&mut self, lookup: &mut L, plant: &P, leg: &Leg, depth: u16, from: R, to: u32) -> bool
+    pub(crate) fn offer<P: Plant, L: Lookup<R>>(
+        &mut self,
+        lookup: &mut L,
+        plant: &P,
+        leg: &Leg,
+        depth: u16,
+        from: R,
+        to: u32,
+    ) -> bool
         requires { ⌜ Ready (R·Record .tells) (L·Lookup .follows (now lookup)) (now self) ⌝ }
         ensures taken { λ r. ⌜ Taken (R·Record .tells) (L·Lookup .follows (now (lookup .exit))) (now (self .entry)) (now (self .exit)) (arriving (R·Record .tells) (meaning (now (plant .entry))) (leg-of (now (leg .entry))) depth (R·Record .carries (now (leg .entry) .half) depth from) (now (self .entry)) (Some to)) r ⌝ }
         ensures lender { λ _. ⌜ name (now (self .exit) .room) ≡ name (now (self .entry) .room) ⌝ }
@@ -32,7 +40,15 @@ impl<'a, R: Record> Store<'a, R> {
     }
 
     // Takes in what the operation leads to from the record, if anything.
-    pub(crate) fn attempt<P: Plant, L: Lookup<R>>(&mut self, lookup: &mut L, plant: &P, leg: &Leg, depth: u16, from: R, operation: u16) -> bool
+    pub(crate) fn attempt<P: Plant, L: Lookup<R>>(
+        &mut self,
+        lookup: &mut L,
+        plant: &P,
+        leg: &Leg,
+        depth: u16,
+        from: R,
+        operation: u16,
+    ) -> bool
         requires { ⌜ Ready (R·Record .tells) (L·Lookup .follows (now lookup)) (now self) ⌝ }
         ensures taken { λ r. ⌜ Taken (R·Record .tells) (L·Lookup .follows (now (lookup .exit))) (now (self .entry)) (now (self .exit)) (arriving (R·Record .tells) (meaning (now (plant .entry))) (leg-of (now (leg .entry))) depth (R·Record .carries (now (leg .entry) .half) depth from) (now (self .entry)) (meaning (now (plant .entry)) .step (R·Record .tells from) operation)) r ⌝ }
         ensures lender { λ _. ⌜ name (now (self .exit) .room) ≡ name (now (self .entry) .room) ⌝ }
@@ -44,7 +60,14 @@ impl<'a, R: Record> Store<'a, R> {
     }
 
     // Expands the record at this place of the present layer: every operation, in their order.
-    pub(crate) fn expand_record<P: Plant, L: Lookup<R>>(&mut self, lookup: &mut L, plant: &P, leg: &Leg, depth: u16, place: usize) -> bool
+    pub(crate) fn expand_record<P: Plant, L: Lookup<R>>(
+        &mut self,
+        lookup: &mut L,
+        plant: &P,
+        leg: &Leg,
+        depth: u16,
+        place: usize,
+    ) -> bool
         requires ready { ⌜ Ready (R·Record .tells) (L·Lookup .follows (now lookup)) (now self) ⌝ }
         requires place { ⌜ place < now self .present ⌝ }
         requires depth { ⌜ depth < 65535 ⌝ }
@@ -63,7 +86,13 @@ impl<'a, R: Record> Store<'a, R> {
     }
 
     // Expands the whole present layer, so that the next one is complete.
-    pub(crate) fn expand_layer<P: Plant, L: Lookup<R>>(&mut self, lookup: &mut L, plant: &P, leg: &Leg, depth: u16) -> bool
+    pub(crate) fn expand_layer<P: Plant, L: Lookup<R>>(
+        &mut self,
+        lookup: &mut L,
+        plant: &P,
+        leg: &Leg,
+        depth: u16,
+    ) -> bool
         requires ready { ⌜ Ready (R·Record .tells) (L·Lookup .follows (now lookup)) (now self) ⌝ }
         requires depth { ⌜ depth < 65535 ⌝ }
         requires stands { ⌜ Stands (meaning (now plant)) (kind (R·Record .tells) (R·Record .opens) (R·Record .carries) (now leg .half)) (leg-of (now leg)) depth [] (now self) ⌝ }

@@ -30,7 +30,14 @@ pub struct Reached<R> {
 // Searches the leg from start to target within the bound; relays are taken at the depth `half`. Refused where the start
 // or the target is no setting, the bound is above 255, the leg needs more records than there are, or has no length. It
 // leaves zero in the records that it needs, and the others as they were; for the first two refusals all of them.
-pub fn search_leg<P: Plant, R: Record>(plant: &P, start: u32, target: u32, bound: u16, half: u16, records: &mut [R]) -> Result<Reached<R>, Refusal>
+pub fn search_leg<P: Plant, R: Record>(
+    plant: &P,
+    start: u32,
+    target: u32,
+    bound: u16,
+    half: u16,
+    records: &mut [R],
+) -> Result<Reached<R>, Refusal>
     ensures answer { λ r. ⌜ Leg-answer (meaning (now (plant .entry))) (kind (R·Record .tells) (R·Record .opens) (R·Record .carries) half) (leg start target bound) (length (now (records .entry))) r ⌝ }
     ensures records { λ _. ⌜ now (records .exit) ≡ leg-leaves (R·Record .blank) (meaning (now (plant .entry))) (leg start target bound) (now (records .entry)) ⌝ }
 {
@@ -54,7 +61,11 @@ pub fn search_leg<P: Plant, R: Record>(plant: &P, start: u32, target: u32, bound
 }
 
 // The search, where start, target and bound are in range.
-fn search_within<P: Plant, R: Record>(plant: &P, leg: &Leg, records: &mut [R]) -> Result<Reached<R>, Refusal>
+fn search_within<P: Plant, R: Record>(
+    plant: &P,
+    leg: &Leg,
+    records: &mut [R],
+) -> Result<Reached<R>, Refusal>
     requires start { ⌜ now leg .start < meaning (now plant) .settings ⌝ }
     requires bound { ⌜ now leg .bound ≤ 255 ⌝ }
     ensures answer { λ r. ⌜ Searched (meaning (now (plant .entry))) (kind (R·Record .tells) (R·Record .opens) (R·Record .carries) (now (leg .entry) .half)) (leg-of (now (leg .entry))) (length (now (records .entry))) r ⌝ }

@@ -64,7 +64,12 @@ pub(crate) struct Walk<R> {
 }
 
 // Walks the leg. None where the records are too few.
-pub(crate) fn walk_leg<P: Plant, R: Record, L: Lookup<R>>(plant: &P, leg: &Leg, records: &mut [R], lookup: &mut L) -> Option<Walk<R>>
+pub(crate) fn walk_leg<P: Plant, R: Record, L: Lookup<R>>(
+    plant: &P,
+    leg: &Leg,
+    records: &mut [R],
+    lookup: &mut L,
+) -> Option<Walk<R>>
     requires follows { ⌜ L·Lookup .follows (now lookup) [] ⌝ }
     requires start { ⌜ now leg .start < meaning (now plant) .settings ⌝ }
     requires bound { ⌜ now leg .bound ≤ 255 ⌝ }

@@ -69,7 +69,12 @@ impl<'a, R: Record> Store<'a, R> {
     }
 
     // Goes on from the first layer to the leg's end. None where the slice is too short.
-    pub(crate) fn run<P: Plant, L: Lookup<R>>(&mut self, lookup: &mut L, plant: &P, leg: &Leg) -> Option<Ended>
+    pub(crate) fn run<P: Plant, L: Lookup<R>>(
+        &mut self,
+        lookup: &mut L,
+        plant: &P,
+        leg: &Leg,
+    ) -> Option<Ended>
         requires ready { ⌜ Ready (R·Record .tells) (L·Lookup .follows (now lookup)) (now self) ⌝ }
         requires start { ⌜ now leg .start < meaning (now plant) .settings ⌝ }
         requires bound { ⌜ now leg .bound ≤ 255 ⌝ }

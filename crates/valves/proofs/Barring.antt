@@ -19,9 +19,9 @@ bars-back : (v p q : ℕ) (ps : List ℕ) (l : Interlock) → (l .other ≡ l .v
 bars-back v p q ps l ne =
     ⊎-elim
     (λ e. let apart : l .other ≡ v → ⊥ = λ h. ne (h ∙ sym (eqb-true _ _ e)) in
-          let stays : getD (set ps v q) (l .other) 0 ≡ getD ps (l .other) 0 = getD-set-other ps v (l .other) q 0 apart in
-          ap (λ x. eqb (l .valve) v && (x && eqb (getD ps (l .other) 0) (l .stands))) (or-comm (eqb (l .position) p) (eqb (l .position) q))
-          ∙ ap (λ x. eqb (l .valve) v && ((eqb (l .position) q || eqb (l .position) p) && eqb x (l .stands))) (sym stays))
+    let stays : getD (set ps v q) (l .other) 0 ≡ getD ps (l .other) 0 = getD-set-other ps v (l .other) q 0 apart in
+    ap (λ x. eqb (l .valve) v && (x && eqb (getD ps (l .other) 0) (l .stands))) (or-comm (eqb (l .position) p) (eqb (l .position) q))
+    ∙ ap (λ x. eqb (l .valve) v && ((eqb (l .position) q || eqb (l .position) p) && eqb x (l .stands))) (sym stays))
     (λ e. bars-of-another v p q ps l e ∙ sym (bars-of-another v q p (set ps v q) l e))
     (cases-bool (eqb (l .valve) v))
 

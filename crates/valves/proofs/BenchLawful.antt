@@ -123,24 +123,32 @@ module _ (ns : List ℕ) (ls : List Interlock) (k : Bench-data ns ls) where
     where
       ps : List ℕ
       ps = positions ns s
+
       w : Within ns ps
       w = positions-within ns s has-positions
+
       valve-in : o / 2 < length ns
       valve-in = let b = h .operation-in in omega arith
+
       mv : Move o (getD ns (o / 2) 0) (getD ps (o / 2) 0) (h .to)
       mv = move-back o (getD ns (o / 2) 0) (getD ps (o / 2) 0) (h .to) (position-below ns ps (o / 2) w valve-in) (h .moves)
+
       w′ : Within ns (set ps (o / 2) (h .to))
       w′ = within-set ns ps (o / 2) (h .to) w (mv .within)
+
       u-in : u < product ns
       u-in = subst (λ x. x < product ns) (sym (h .lands)) (setting-below ns (set ps (o / 2) (h .to)) w′)
+
       up : positions ns u ≡ set ps (o / 2) (h .to)
       up = ap (positions ns) (h .lands) ∙ positions-setting ns (set ps (o / 2) (h .to)) w′
+
       inside : t < product ns → bench-estimate ns s t ≤ suc (bench-estimate ns u t)
       inside b =
           let one = apart-falls ps (positions ns t) (o / 2) (h .to) (mv .not-above) (mv .not-below) in
           let here = estimate-in s t (h .setting-in) b in
           let there = estimate-in u t u-in b ∙ ap (λ x. apart x (positions ns t)) up in
           omega (arith, one, here, there)
+
       outside : product ns ≤ t → bench-estimate ns s t ≤ suc (bench-estimate ns u t)
       outside b =
           let past = and-right (ltb s (product ns)) (ltb t (product ns)) (le-ltb t (product ns) b) in
@@ -159,6 +167,7 @@ module _ (ns : List ℕ) (ls : List Interlock) (k : Bench-data ns ls) where
       inside b =
           let rev : bench-reverse ns o ≡ other-way o = cond-true _ _ _ (lt-ltb _ _ b) in
           ap (bench-reverse ns) rev ∙ (cond-true _ _ _ (lt-ltb _ _ (turned-back o .below (length ns) b)) ∙ turned-back o .back-again)
+
       outside : 2 * length ns ≤ o → bench-reverse ns (bench-reverse ns o) ≡ o
       outside b = let same : bench-reverse ns o ≡ o = cond-false _ _ _ (le-ltb _ _ b) in ap (bench-reverse ns) same ∙ same
 

@@ -48,6 +48,7 @@ valve-by false l ls v r d e rest h = ap (λ x. getD (l ∷ ls) x d .valve) one-l
   where
     least : suc r ≤ row-of v ls (suc r)
     least = row-of-fits ls v (suc r) .0
+
     one-less : row-of v ls (suc r) - r ≡ suc (row-of v ls (suc r) - suc r)
     one-less = omega (arith, least)
 
@@ -81,6 +82,7 @@ module _ (v p q : ℕ) (ps : List ℕ) where
     where
       least : suc r ≤ row-of v ls (suc r)
       least = row-of-fits ls v (suc r) .0
+
       one-less : row-of v ls (suc r) - r ≡ suc (row-of v ls (suc r) - suc r)
       one-less = omega (arith, least)
 
@@ -109,6 +111,7 @@ module _ (ls : List Interlock) (r : ℕ) (d : Interlock) (within : r < length ls
           ap (λ x. getD (set first (getD ls r d .valve) r) x 0) e
           ∙ (getD-set-same first (getD ls r d .valve) r 0 (omega arith)
           ∙ sym (row-more ls v r d within ∙ cond-true (eqb (getD ls r d .valve) v) r (row-from ls v (suc r)) (eq-eqb _ _ (sym e))))
+
       other : (v ≡ getD ls r d .valve → ⊥) → getD (set first (getD ls r d .valve) r) v 0 ≡ row-from ls v r
       other ne =
           getD-set-other first (getD ls r d .valve) v r 0 ne
@@ -122,5 +125,6 @@ module _ (ls : List Interlock) (r : ℕ) (d : Interlock) (within : r < length ls
           ap (λ x. getD (set following r next) x 0) q
           ∙ (getD-set-same following r next 0 (omega arith)
           ∙ (is ∙ (ap (λ x. row-from ls (x .valve) (suc r)) (getD-default ls r d e within) ∙ ap (λ x. row-from ls (getD ls x e .valve) (suc x)) (sym q))))
+
       other : (i ≡ r → ⊥) → getD (set following r next) i 0 ≡ row-from ls (getD ls i e .valve) (suc i)
       other ne = getD-set-other following r i next 0 ne ∙ so i e (omega arith) k

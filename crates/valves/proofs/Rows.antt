@@ -27,7 +27,6 @@ other-in b row d h =
     let inside : row < length (interlocks-of b) = omega arith in
     subst (λ x. getD (b .interlocks) row d .other < x) (counts-length b) (subst (λ x. x .other < length (counts-of b)) (row-at b row d h) (data-of b .ranged row d inside .other))
 
-
 module _ (b : Bench) (v p q : ℕ) (ps : List ℕ) where
   -- the rows from this one on bar the move exactly where all rows do; it is one of the valve's, if it is a row
   pub record At-row (row : ℕ) : Type 0 where

@@ -41,4 +41,3 @@ bench-fault ns ls =
     cond (ltb (length ns) 1 || ltb 12 (length ns)) (Some Valves)
     (cond (ltb 32 (length ls)) (Some Interlocks)
     (either-fault (positions-fault ns 0) (interlocks-fault ns ls 0)))
-

@@ -10,10 +10,10 @@ ghost use Rattle.valves.specs.Faults.{bench-fault};
 ghost use Rattle.valves.specs.Tables.{Weighs, Begins, Goes-on};
 use crate::interlock::Interlock;
 
-mod tables;
-mod make;
 mod look;
+mod make;
 pub mod questions;
+mod tables;
 
 #[derive(Drop)]
 pub struct Bench {

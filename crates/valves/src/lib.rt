@@ -1,5 +1,5 @@
 // Valve benches: up to twelve valves of two to four positions each, with interlocks between them.
-pub mod interlock;
-pub mod fault;
 pub mod bench;
 pub mod check;
+pub mod fault;
+pub mod interlock;

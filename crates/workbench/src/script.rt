@@ -28,7 +28,11 @@ pub fn run_line(rt: &LibcRuntime, shop: &mut Shop, line: &str) -> Result<(), Any
     }
 }
 
-fn run_on<P: Plant + Describe>(rt: &LibcRuntime, plant: &mut Tagged<P>, rest: &str) -> Result<(), AnyError> {
+fn run_on<P: Plant + Describe>(
+    rt: &LibcRuntime,
+    plant: &mut Tagged<P>,
+    rest: &str,
+) -> Result<(), AnyError> {
     match rest.split_once(' ') {
         Some(("tag", operation)) => {
             let refused = plant.tag(operation.parse::<u16>()?);
@@ -56,7 +60,11 @@ fn tell(rt: &LibcRuntime, answer: Result<(), Refusal>) -> Result<(), AnyError> {
 }
 
 // Works the operations from setting 0, as far as they have a step, and prints each setting.
-fn work<P: Plant + Describe>(rt: &LibcRuntime, plant: &Tagged<P>, words: &str) -> Result<(), AnyError> {
+fn work<P: Plant + Describe>(
+    rt: &LibcRuntime,
+    plant: &Tagged<P>,
+    words: &str,
+) -> Result<(), AnyError> {
     let mut setting = 0;
     let text = plant.describe(rt.alloc(), setting)?;
     println!(rt, "  at {setting}: {text}")?;

@@ -1,14 +1,14 @@
 // The plants of the program: bench A, a ring of four stations with a spur, and the two run as one.
 use pair::pair::Pair;
+use pair::pair::questions::PairPlant;
 use std::error::AnyError;
 use tagged::tagged::Tagged;
 use track::link::Link;
 use track::track::Track;
-use valves::bench::Bench;
-use valves::interlock::Interlock;
-use pair::pair::questions::PairPlant;
 use track::track::questions::TrackPlant;
+use valves::bench::Bench;
 use valves::bench::questions::BenchPlant;
+use valves::interlock::Interlock;
 
 #[derive(Drop)]
 pub struct Shop {

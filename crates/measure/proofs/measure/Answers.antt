@@ -35,8 +35,8 @@ returns-in-Err g c =
     record {
       answer = refused;
       records =
-        c .clear-after .ensures ∙ ap (left-by 0 (c .in-Err .refusal)) (c .search-leg .ensures .records)
-        ∙ left-refused 0 m l (ltb (length rs) (need m l)) (leg-length m l) (expanded m l) (c .in-Err .refusal) rs (leg-leaves 0 m l rs) (leg-leaves-long 0 m l rs) (leg-leaves-outside 0 m l rs) refused;
+          c .clear-after .ensures ∙ ap (left-by 0 (c .in-Err .refusal)) (c .search-leg .ensures .records)
+          ∙ left-refused 0 m l (ltb (length rs) (need m l)) (leg-length m l) (expanded m l) (c .in-Err .refusal) rs (leg-leaves 0 m l rs) (leg-leaves-long 0 m l rs) (leg-leaves-outside 0 m l rs) refused;
       laws = legs-lawful m lawful;
       least = plans-lawful m lawful .measures;
     }

@@ -65,10 +65,22 @@ fetch-requires g t c κs within =
     let a : Counted ℕ = record { found = c .in-Ok .reached .length; count = c .in-Ok .reached .expanded } in
     let found = c .in-Ok .ensures tt .answer .0 in
     let half = relay-halfway m lawful n s goal records two (c .pre .short) (c .pre .start) (c .pre .target) (c .pre .distance) a found (c .in-Ok .reached .record) (c .in-Ok .ensures tt .answer .1 .0) (c .in-Ok .ensures tt .answer .1 .1) in
-    let relay = c .in-Ok .reached .record .relay in
-    (omega arith,
-     (within, (c .pre .start, (halfway-in m lawful n s goal records two (c .pre .short) (c .pre .start) (c .pre .target) (c .pre .distance) a found relay half, (omega (arith, c .pre .short),
-     (simp length-take (omega (arith, c .pre .long)), first-distance m lawful n s goal records two (c .pre .short) (c .pre .start) (c .pre .target) (c .pre .distance) a found relay half))))))
+    let relay = c .in-Ok .reached .record .relay in (
+      omega arith,
+      (
+        within,
+        (
+          c .pre .start,
+          (
+            halfway-in m lawful n s goal records two (c .pre .short) (c .pre .start) (c .pre .target) (c .pre .distance) a found relay half,
+            (
+              omega (arith, c .pre .short),
+              (simp length-take (omega (arith, c .pre .long)), first-distance m lawful n s goal records two (c .pre .short) (c .pre .start) (c .pre .target) (c .pre .distance) a found relay half),
+            ),
+          ),
+        ),
+      ),
+    )
 
 pub returns-in-rest-fetch : need.returns-in-rest-fetch
 returns-in-rest-fetch g t c =
@@ -99,10 +111,22 @@ fetch-requires-2 g t c κs within =
     let half = relay-halfway m lawful n s goal records two (c .pre .short) (c .pre .start) (c .pre .target) (c .pre .distance) a found (c .in-Ok .reached .record) (c .in-Ok .ensures tt .answer .1 .0) (c .in-Ok .ensures tt .answer .1 .1) in
     let relay = c .in-Ok .reached .record .relay in
     let front : length (c .fetch .last .list) ≡ n / 2 = c .fetch .kept .list ∙ simp length-take (omega (arith, c .pre .long)) in
-    let low : n / 2 ≤ n = omega arith in
-    (omega arith,
-     (within, (halfway-in m lawful n s goal records two (c .pre .short) (c .pre .start) (c .pre .target) (c .pre .distance) a found relay half, (c .pre .target, (omega (arith, c .pre .short),
-     (rest-long (n / 2) n (c .fetch .last .list) (c .args .list .now) low front (c .pre .long), second-distance m lawful n s goal records two (c .pre .short) (c .pre .start) (c .pre .target) (c .pre .distance) a found relay half))))))
+    let low : n / 2 ≤ n = omega arith in (
+      omega arith,
+      (
+        within,
+        (
+          halfway-in m lawful n s goal records two (c .pre .short) (c .pre .start) (c .pre .target) (c .pre .distance) a found relay half,
+          (
+            c .pre .target,
+            (
+              omega (arith, c .pre .short),
+              (rest-long (n / 2) n (c .fetch .last .list) (c .args .list .now) low front (c .pre .long), second-distance m lawful n s goal records two (c .pre .short) (c .pre .start) (c .pre .target) (c .pre .distance) a found relay half),
+            ),
+          ),
+        ),
+      ),
+    )
 
 pub returns-in-rest-fetch-2 : need.returns-in-rest-fetch-2
 returns-in-rest-fetch-2 g t c =

@@ -69,10 +69,11 @@ returns-in-Some g c =
     let listed : length (c .fetch .last .list) ≡ n = c .fetch .kept .list ∙ simp length-take (omega arith) in
     let fetched = subst (λ k. Fetched m n (c .args .start) (c .args .target) k (c .fetch .last .list) (Some (c .in-Some .fetched))) (c .search-leg .kept .records) (c .in-Some .ensures tt) in
     record {
-      found =
-        (planned-found m lawful l records a found (c .fetch .last .list) (c .in-Some .fetched) fetched
-         ∙ ap (λ xs. Ok (record { found = xs; count = c .in-Ok .reached .expanded + c .in-Some .fetched })) (list-in-front n (c .fetch .last .list) (c .args .place .now) (c .pre) fits listed),
-         written n (c .fetch .last .list) (c .args .place .now) (c .pre) fits listed);
+      found = (
+        planned-found m lawful l records a found (c .fetch .last .list) (c .in-Some .fetched) fetched
+            ∙ ap (λ xs. Ok (record { found = xs; count = c .in-Ok .reached .expanded + c .in-Some .fetched })) (list-in-front n (c .fetch .last .list) (c .args .place .now) (c .pre) fits listed),
+        written n (c .fetch .last .list) (c .args .place .now) (c .pre) fits listed,
+      );
       kept = λ e. searched m lawful l records a found e;
     }
 

@@ -20,8 +20,8 @@ returns-in-Ok g c =
     record {
       answer = found;
       records =
-        c .clear-all .ensures ∙ ap (λ n. replicate n relay-blank) (c .find-list .kept .records)
-        ∙ left-found relay-blank m l (ltb (length rs) (most-need m (plan-legs m l))) (plan-list m l) (count m (plan-legs m l)) _ rs (found .0);
+          c .clear-all .ensures ∙ ap (λ n. replicate n relay-blank) (c .find-list .kept .records)
+          ∙ left-found relay-blank m l (ltb (length rs) (most-need m (plan-legs m l))) (plan-list m l) (count m (plan-legs m l)) _ rs (found .0);
       laws = plans-lawful m lawful;
     }
 
@@ -35,7 +35,7 @@ returns-in-Err g c =
     record {
       answer = (refused, refl);
       records =
-        c .clear-after .ensures
-        ∙ left-refused relay-blank m l (ltb (length rs) (most-need m (plan-legs m l))) (plan-list m l) (count m (plan-legs m l)) (c .in-Err .refusal) rs (c .find-list .last .records) (c .find-list .kept .records) (c .find-list .ensures .kept) refused;
+          c .clear-after .ensures
+          ∙ left-refused relay-blank m l (ltb (length rs) (most-need m (plan-legs m l))) (plan-list m l) (count m (plan-legs m l)) (c .in-Err .refusal) rs (c .find-list .last .records) (c .find-list .kept .records) (c .find-list .ensures .kept) refused;
       laws = plans-lawful m lawful;
     }

@@ -36,14 +36,15 @@ returns-in-Some-hit g c =
     let at : At-end m k l (Some (c .in-Some-hit .record)) = subst (λ o. At-end m k l o) (c .in-Some-hit .is) (ran .5) in
     let used = ran .2 in
     record {
-      answer =
-        (ran .3,
-         length-hit m k t l (c .in-Some-hit .record) at ∙ ap Some (sym (ran .0)),
-         ran .1,
-         (subst (λ n. In (c .in-Some-hit .record) (layer m k l n)) (sym (ran .0)) (at .0), at .1));
+      answer = (
+        ran .3,
+        length-hit m k t l (c .in-Some-hit .record) at ∙ ap Some (sym (ran .0)),
+        ran .1,
+        (subst (λ n. In (c .in-Some-hit .record) (layer m k l n)) (sym (ran .0)) (at .0), at .1),
+      );
       records =
-        c .blank-front .ensures ∙ ap (λ n. replicate n (g .R·Record .blank) ++ drop n (c .walk-leg .last .records)) used
-        ∙ zeroed-front (g .R·Record .blank) (need m l) (c .args .records .now) (c .walk-leg .last .records) (ran .3) (ran .4);
+          c .blank-front .ensures ∙ ap (λ n. replicate n (g .R·Record .blank) ++ drop n (c .walk-leg .last .records)) used
+          ∙ zeroed-front (g .R·Record .blank) (need m l) (c .args .records .now) (c .walk-leg .last .records) (ran .3) (ran .4);
     }
 
 pub returns-in-None : need.returns-in-None

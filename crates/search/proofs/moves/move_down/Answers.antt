@@ -21,9 +21,9 @@ returns g c =
     let long : length rest ≡ count - gone = length-drop gone (take (count - 0) room) ∙ omega (arith, length-take (count - 0) room, c .pre .count, c .pre .gone) in
     record {
       front =
-        ap (λ xs. take (count - gone) (xs ++ post)) (c .rotate-left .ensures .after)
-        ∙ ap (take (count - gone)) (append-assoc rest (take gone (take (count - 0) room)) post)
-        ∙ take-at rest (take gone (take (count - 0) room) ++ post) (count - gone) long
-        ∙ ap (λ n. drop gone (take n room)) whole;
+          ap (λ xs. take (count - gone) (xs ++ post)) (c .rotate-left .ensures .after)
+          ∙ ap (take (count - gone)) (append-assoc rest (take gone (take (count - 0) room)) post)
+          ∙ take-at rest (take gone (take (count - 0) room) ++ post) (count - gone) long
+          ∙ ap (λ n. drop gone (take n room)) whole;
       behind = search (needs, overwrites);
     }

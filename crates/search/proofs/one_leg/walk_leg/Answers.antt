@@ -31,12 +31,13 @@ returns-in-Some g c =
     let behind = subst (λ n. drop n (room-of (c .run-end .last .self)) ≡ drop n (room-of (c .begin .last .self))) needed (w .behind) in
     let from-start = drop-further 1 (need m l) (room-of (c .begin .last .self)) (c .args .records .now) (need-one m l) (begun .behind) in
     record {
-      run =
-        (e,
-         w .counted ∙ ap (sizes m l) e,
-         needed,
-         omega (arith, needed, w .used-fits, begun .long),
-         same-behind _ (room-of (c .run-end .last .self)) (c .args .records .now) (need m l) (search needs) (behind ∙ from-start),
-         hit-at-end m lawful k t l (c .in-Some .ended .depth) [] (c .run-end .last .self) (c .record-of .result) (w .stands) e (c .record-of .ensures));
+      run = (
+        e,
+        w .counted ∙ ap (sizes m l) e,
+        needed,
+        omega (arith, needed, w .used-fits, begun .long),
+        same-behind _ (room-of (c .run-end .last .self)) (c .args .records .now) (need m l) (search needs) (behind ∙ from-start),
+        hit-at-end m lawful k t l (c .in-Some .ended .depth) [] (c .run-end .last .self) (c .record-of .result) (w .stands) e (c .record-of .ensures),
+      );
       cleared = c .tell-cleared .ensures;
     }

@@ -17,18 +17,18 @@ returns g c =
     let long = c .move-down .kept .room in
     record {
       advanced =
-        record {
-          ready =
-            record {
-              within = omega (arith, long, c .pre .within);
-              followed = subst (λ xs. g .L·Lookup .follows (c .tell-leaving .last .lookup) xs) (drop-map tells (s .before) (standing s) ∙ ap (map tells) (sym stays)) (c .tell-leaving .ensures);
-            };
-          long = long;
-          befores = refl;
-          presents = refl;
-          nexts = refl;
-          left = stays;
-          behind = c .move-down .ensures .behind;
-        };
+          record {
+            ready =
+                record {
+                  within = omega (arith, long, c .pre .within);
+                  followed = subst (λ xs. g .L·Lookup .follows (c .tell-leaving .last .lookup) xs) (drop-map tells (s .before) (standing s) ∙ ap (map tells) (sym stays)) (c .tell-leaving .ensures);
+                };
+            long = long;
+            befores = refl;
+            presents = refl;
+            nexts = refl;
+            left = stays;
+            behind = c .move-down .ensures .behind;
+          };
       lender = refl;
     }

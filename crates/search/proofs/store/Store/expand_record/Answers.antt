@@ -25,10 +25,11 @@ loop-operation-holds g c =
     let m = g .P·Plant .meaning (c .args .plant .now) in
     let k = kind (g .R·Record .tells) (g .R·Record .opens) (g .R·Record .carries) (c .args .leg .now .half) in
     let l = leg-of (c .args .leg .now) in
-    let rs = take (c .args .place) (layer m k l (c .args .depth)) in
-    (unchanged (g .R·Record .tells) (g .L·Lookup .follows (c .args .lookup .now)) (c .args .self .now) (c .pre .ready),
-     subst (λ xs. Stands m k l (c .args .depth) xs (c .args .self .now)) (sym (filled-starts m k l (c .args .depth) rs (c .index-self-at .result))) (c .pre .stands),
-     refl)
+    let rs = take (c .args .place) (layer m k l (c .args .depth)) in (
+      unchanged (g .R·Record .tells) (g .L·Lookup .follows (c .args .lookup .now)) (c .args .self .now) (c .pre .ready),
+      subst (λ xs. Stands m k l (c .args .depth) xs (c .args .self .now)) (sym (filled-starts m k l (c .args .depth) rs (c .index-self-at .result))) (c .pre .stands),
+      refl,
+    )
 
 pub attempt-requires : need.attempt-requires
 attempt-requires g c κs = c .loop-operation .inv .0 .ready
@@ -81,10 +82,11 @@ loop-operation-again g c =
     let took = subst (λ b. Taken tells F now-s (c .attempt .last .self) (arriving tells m l (d + 1) (g .R·Record .carries h (d + 1) r) now-s (m .step (tells r) o)) b) (c .if-not-attempt .left) (c .attempt .ensures .taken) in
     let at = subst (λ x. Taken tells F now-s (c .attempt .last .self) (arriving tells m l x (g .R·Record .carries h x r) now-s (m .step (tells r) o)) true) (add-one d) took in
     let here = in-layer m lawful k t l d place s (filled-by m k l d place) r (c .pre .stands) (c .pre .place) (c .pre .ready .within) read in
-    let next = turn m lawful k t l d (take place (layer m k l d)) r here F now-s (c .attempt .last .self) o (c .loop-operation .inv .1) at in
-    (kept-on tells (g .L·Lookup .follows (c .loop-operation .lookup)) F s now-s (c .attempt .last .self) (c .loop-operation .inv .0) (at .0),
-     subst (λ n. Stands m k l d (filled-more m k l d (take place (layer m k l d)) r n) (c .attempt .last .self)) (sym (add-one o)) next,
-     c .attempt .ensures .lender ∙ c .loop-operation .inv .2)
+    let next = turn m lawful k t l d (take place (layer m k l d)) r here F now-s (c .attempt .last .self) o (c .loop-operation .inv .1) at in (
+      kept-on tells (g .L·Lookup .follows (c .loop-operation .lookup)) F s now-s (c .attempt .last .self) (c .loop-operation .inv .0) (at .0),
+      subst (λ n. Stands m k l d (filled-more m k l d (take place (layer m k l d)) r n) (c .attempt .last .self)) (sym (add-one o)) next,
+      c .attempt .ensures .lender ∙ c .loop-operation .inv .2,
+    )
 
 pub returns : need.returns
 returns g c =

@@ -21,16 +21,17 @@ returns g c =
     let follows = subst (λ u. g .L·Lookup .follows (c .enter .last .self) (map tells (standing s) ++ (u ∷ []))) (c .setting .ensures) told in
     let following = subst (λ xs. g .L·Lookup .follows (c .enter .last .self) xs) (sym (ap (map tells) pushed ∙ map-push tells (standing s) (c .args .new))) follows in
     record {
-      pushed =
-        (record {
-           ready = record { within = subst (λ k. s .before + s .present + (s .next + 1) ≤ k) (sym (length-set (room-of s) place (c .args .new))) (omega arith); followed = following };
-           long = length-set (room-of s) place (c .args .new);
-           befores = refl;
-           presents = refl;
-           more = omega arith;
-           behind = drop-set-lt (s .before + s .present + (s .next + 1)) (room-of s) place (c .args .new) (omega arith);
-         },
-         refl,
-         pushed);
+      pushed = (
+        record {
+          ready = record { within = subst (λ k. s .before + s .present + (s .next + 1) ≤ k) (sym (length-set (room-of s) place (c .args .new))) (omega arith); followed = following };
+          long = length-set (room-of s) place (c .args .new);
+          befores = refl;
+          presents = refl;
+          more = omega arith;
+          behind = drop-set-lt (s .before + s .present + (s .next + 1)) (room-of s) place (c .args .new) (omega arith);
+        },
+        refl,
+        pushed,
+      );
       lender = refl;
     }

@@ -99,10 +99,11 @@ loop-self-again g c =
     let got = subst (λ b. Completed tells (g .L·Lookup .follows (c .expand-layer .last .lookup)) m k l d (c .loop-self .self) s₁ b) (c .if-not-expand-layer .left) (c .expand-layer .ensures .completed) in
     let next =
     walked-on m lawful k t l (g .L·Lookup .follows (c .loop-self .lookup)) (g .L·Lookup .follows (c .expand-layer .last .lookup)) G (c .args .self .now) (c .loop-self .self) s₁ (c .advance .last .self) d (c .loop-self .expanded) (c .loop-self .used)
-    w going (got .0) (got .1) (c .advance .ensures .advanced) in
-    (subst (λ n. Walked tells G m k l (c .args .self .now) (c .advance .last .self) n (c .loop-self .expanded + s₁ .present) (c .max-used .result)) (sym (add-one d))
-     (subst (λ n. Walked tells G m k l (c .args .self .now) (c .advance .last .self) (suc d) (c .loop-self .expanded + s₁ .present) n) (sym (c .max-used .ensures)) next),
-     c .advance .ensures .lender ∙ c .expand-layer .ensures .lender ∙ c .loop-self .inv .1)
+    w going (got .0) (got .1) (c .advance .ensures .advanced) in (
+      subst (λ n. Walked tells G m k l (c .args .self .now) (c .advance .last .self) n (c .loop-self .expanded + s₁ .present) (c .max-used .result)) (sym (add-one d))
+          (subst (λ n. Walked tells G m k l (c .args .self .now) (c .advance .last .self) (suc d) (c .loop-self .expanded + s₁ .present) n) (sym (c .max-used .ensures)) next),
+      c .advance .ensures .lender ∙ c .expand-layer .ensures .lender ∙ c .loop-self .inv .1,
+    )
 
 pub returns : need.returns
 returns g c =

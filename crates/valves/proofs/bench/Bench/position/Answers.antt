@@ -12,10 +12,10 @@ returns c =
     record {
       exact = c .position-in .ensures;
       numbered =
-        record {
-          positions-in = λ s h. positions-within ns s some;
-          setting-back = λ s h. setting-positions ns s some h;
-          setting-in = setting-below ns;
-          positions-back = positions-setting ns;
-        };
+          record {
+            positions-in = λ s h. positions-within ns s some;
+            setting-back = λ s h. setting-positions ns s some h;
+            setting-in = setting-below ns;
+            positions-back = positions-setting ns;
+          };
     }

@@ -18,10 +18,25 @@ ghost-result c =
     let ls = c .args .interlocks .now in
     let held = sym (c .held-positions .ensures) in
     let locks = sym (c .held-interlocks .ensures) in
-    let few = c .pre .valves-most in
-    ((search needs, search needs, search needs), ((search needs, search needs), ((c .pre .valves-most, c .pre .rows-most),
-     (subst (λ x. isSome (bench-fault x (take (length ls) (c .held-interlocks .result))) ≡ false) held (subst (λ x. isSome (bench-fault ns x) ≡ false) locks (ap isSome (none-from-data ns ls (c .pre)))),
-     (subst (λ x. Weighs x (c .weights-of-settings .result .0)) held (c .weights-of-settings .ensures .weighs),
-     (subst (λ x. c .weights-of-settings .result .1 ≡ product x) held (c .weights-of-settings .ensures .counts),
-     (subst (λ x. Begins (length ns) x (c .chains-of .result .first)) locks (λ v h. c .chains-of .ensures .begins v (omega arith)),
-     (subst (λ x. Goes-on x (c .chains-of .result .following)) locks (c .chains-of .ensures .goes), tt))))))))
+    let few = c .pre .valves-most in (
+      (search needs, search needs, search needs),
+      (
+        (search needs, search needs),
+        (
+          (c .pre .valves-most, c .pre .rows-most),
+          (
+            subst (λ x. isSome (bench-fault x (take (length ls) (c .held-interlocks .result))) ≡ false) held (subst (λ x. isSome (bench-fault ns x) ≡ false) locks (ap isSome (none-from-data ns ls (c .pre)))),
+            (
+              subst (λ x. Weighs x (c .weights-of-settings .result .0)) held (c .weights-of-settings .ensures .weighs),
+              (
+                subst (λ x. c .weights-of-settings .result .1 ≡ product x) held (c .weights-of-settings .ensures .counts),
+                (
+                  subst (λ x. Begins (length ns) x (c .chains-of .result .first)) locks (λ v h. c .chains-of .ensures .begins v (omega arith)),
+                  (subst (λ x. Goes-on x (c .chains-of .result .following)) locks (c .chains-of .ensures .goes), tt),
+                ),
+              ),
+            ),
+          ),
+        ),
+      ),
+    )

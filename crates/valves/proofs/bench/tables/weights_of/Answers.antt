@@ -26,12 +26,13 @@ loop-valve-again c =
     let v = c .loop-valve .valve in
     let ws = c .loop-valve .weights in
     let w = c .loop-valve .weight in
-    let inside : v < length ws = omega (arith, c .pre .few, c .loop-valve .inv .0) in
-    (length-set ws v w ∙ c .loop-valve .inv .0,
-     ap (λ x. x * getD ns v 0) (c .loop-valve .inv .1) ∙ (sym (weight-more ns v (c .loop-valve-test .taken)) ∙ ap (weight ns) (sym (add-one v))),
-     below-more _ _
-       (λ k h. let ne : k ≢ v = omega arith in getD-set-other ws v k w 0 ne ∙ c .loop-valve .inv .2 k h)
-       (getD-set-same ws v w 0 inside ∙ c .loop-valve .inv .1))
+    let inside : v < length ws = omega (arith, c .pre .few, c .loop-valve .inv .0) in (
+      length-set ws v w ∙ c .loop-valve .inv .0,
+      ap (λ x. x * getD ns v 0) (c .loop-valve .inv .1) ∙ (sym (weight-more ns v (c .loop-valve-test .taken)) ∙ ap (weight ns) (sym (add-one v))),
+      below-more _ _
+          (λ k h. let ne : k ≢ v = omega arith in getD-set-other ws v k w 0 ne ∙ c .loop-valve .inv .2 k h)
+          (getD-set-same ws v w 0 inside ∙ c .loop-valve .inv .1),
+    )
 
 pub returns : need.returns
 returns c =
