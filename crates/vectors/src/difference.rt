@@ -1,0 +1,25 @@
+// What is not as a vector expects it.
+#[derive(Clone, Copy)]
+pub enum Difference {
+    Tag,
+    Length,
+    Expanded,
+    Need,
+    List,
+    Count,
+    Most,
+}
+
+impl Difference {
+    pub fn text(self) -> &'static str {
+        match self {
+            Difference::Tag => "a tag is refused",
+            Difference::Length => "the length differs",
+            Difference::Expanded => "the settings expanded differ",
+            Difference::Need => "the measure is not overfull with one record fewer",
+            Difference::List => "the list differs",
+            Difference::Count => "the count differs",
+            Difference::Most => "the plan is not overfull with one record fewer",
+        }
+    }
+}
