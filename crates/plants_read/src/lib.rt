@@ -1,0 +1,3 @@
+// Benches and tracks made of the bodies that describe them.
+pub mod bench_read;
+pub mod track_read;
