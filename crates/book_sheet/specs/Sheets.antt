@@ -1,7 +1,7 @@
 -- The sheet of a book, and what the call from book to sheet answers and leaves in the buffer. Assumes nothing.
 use mathlib.Core.Bool.{cond}
 use mathlib.Core.List.{List, [], _∷_, _++_}
-use Prim.Native.Nat.{ℕ}
+use Prim.Native.Nat.{ℕ, _+_}
 use lib.Dec.{ltb}
 use lib.ListN.{length, drop}
 use Rattle.std.specs.declared.option.Option.{Option}
@@ -12,6 +12,9 @@ use Rattle.sheet.specs.Steps.{Steps}
 use Rattle.sheet.specs.Bytes.{sheet-bytes, zeros}
 use Rattle.faults.specs.declared.fault.FileFault.{FileFault}
 use Rattle.faults.specs.declared.fault.FileFault.the-variants.{ShortSheet}
+use Rattle.file.specs.declared.kind.Kind.{Kind}
+use Rattle.file.specs.declared.kind.Kind.the-variants as kind
+use Rattle.file.specs.Kinds.{kind-of}
 use Rattle.file.specs.Parts.{Part}
 use Rattle.file.specs.Read.{parts}
 use Rattle.book.specs.Book.{book-fault}
@@ -25,6 +28,18 @@ put (Some b) bs = b ∷ bs
 abbrev pub answers-from : List Part → List Part → List Steps
 answers-from all [] = []
 answers-from all (e ∷ es) = put (entry-steps all e) (answers-from all es)
+
+-- how many of these entries are jobs
+abbrev pub job-count : Option Kind → ℕ
+job-count None = 0
+job-count (Some kind.Valves) = 0
+job-count (Some kind.Track) = 0
+job-count (Some kind.Job) = 1
+job-count (Some kind.Steps) = 0
+
+abbrev pub jobs-in : List Part → ℕ
+jobs-in [] = 0
+jobs-in (e ∷ es) = job-count (kind-of (e .kind)) + jobs-in es
 
 -- the bodies of the sheet of a book
 abbrev pub book-steps : List ℕ → List Steps
