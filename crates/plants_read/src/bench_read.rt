@@ -4,11 +4,11 @@ ghost use Prim.Native.Nat.{_≤_};
 ghost use lib.ListN.{length, take};
 ghost use Rattle.plant_bodies.specs.BenchRule.{body-interlocks};
 ghost use Rattle.plants_read.specs.Benches.{Reads-bench};
-use valves::bench::Bench;
-use valves::interlock::Interlock;
 use plant_bodies::bench_body::valves_fault;
 use plant_parts::bench_parts::interlock_in;
 use plant_parts::bench_parts::positions;
+use valves::bench::Bench;
+use valves::interlock::Interlock;
 
 // The interlocks of a body, in a place of thirty-two.
 fn held_interlocks(body: &[u8]) -> [Interlock; 32]

@@ -12,9 +12,10 @@ returns-in-None c =
     λ h. held-all (c .loop-row .held) ls (c .loop-row .row) (c .loop-row .inv .1) (nth-none ls (c .loop-row .row) (c .in-None .ensures tt))
 
 pub loop-row-again : need.loop-row-again
-loop-row-again c =
-    (length-set (c .loop-row .held) _ _ ∙ c .loop-row .inv .0,
-     held-more (c .loop-row .held) (body-interlocks (c .args .body .now)) (c .loop-row .row) (c .in-Some .lock) (omega arith) (c .loop-row .inv .1) (c .in-Some .ensures tt))
+loop-row-again c = (
+  length-set (c .loop-row .held) _ _ ∙ c .loop-row .inv .0,
+  held-more (c .loop-row .held) (body-interlocks (c .args .body .now)) (c .loop-row .row) (c .in-Some .lock) (omega arith) (c .loop-row .inv .1) (c .in-Some .ensures tt),
+)
 
 pub returns : need.returns
 returns c = λ h. held-all (c .loop-row .held) (body-interlocks (c .args .body .now)) (c .loop-row .row) (c .loop-row .inv .1) (omega arith)

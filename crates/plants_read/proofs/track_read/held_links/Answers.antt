@@ -15,10 +15,11 @@ returns-in-None c =
     λ h. held-all (c .loop-number .held) ls (c .loop-number .number) (c .loop-number .inv .1) (nth-none ls (c .loop-number .number) none)
 
 pub loop-number-again : need.loop-number-again
-loop-number-again c =
-    (length-set (c .loop-number .held) _ _ ∙ c .loop-number .inv .0,
-     held-more (c .loop-number .held) (track-links (c .args .body .now)) (c .loop-number .number) _ (omega arith) (c .loop-number .inv .1)
-       (laid-there (body-links (c .args .body .now)) (c .loop-number .number) (c .in-Some .ends) (c .in-Some .ensures tt)))
+loop-number-again c = (
+  length-set (c .loop-number .held) _ _ ∙ c .loop-number .inv .0,
+  held-more (c .loop-number .held) (track-links (c .args .body .now)) (c .loop-number .number) _ (omega arith) (c .loop-number .inv .1)
+      (laid-there (body-links (c .args .body .now)) (c .loop-number .number) (c .in-Some .ends) (c .in-Some .ensures tt)),
+)
 
 pub returns : need.returns
 returns c = λ h. held-all (c .loop-number .held) (track-links (c .args .body .now)) (c .loop-number .number) (c .loop-number .inv .1) (omega arith)
