@@ -4,7 +4,7 @@ use std::error::AnyError;
 use valves::bench::Bench;
 use valves::interlock::Interlock;
 
-pub fn bench_a() -> Result<Bench, AnyError> {
+pub(crate) fn bench_a() -> Result<Bench, AnyError> {
     let interlock = Interlock {
         valve: 0,
         position: 2,

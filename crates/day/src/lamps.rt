@@ -7,7 +7,7 @@ use valves::bench::questions::BenchPlant;
 // How many operations the bench has.
 const OPERATIONS: u16 = 4;
 
-pub fn show_lamps(rt: &LibcRuntime, sequencer: &Sequencer<Bench>) -> Result<(), AnyError> {
+pub(crate) fn show_lamps(rt: &LibcRuntime, sequencer: &Sequencer<Bench>) -> Result<(), AnyError> {
     let setting = sequencer.setting();
     let mut tags = String::new(rt.alloc());
     for operation in 0..OPERATIONS {

@@ -10,7 +10,7 @@ use valves::bench::questions::BenchPlant;
 // The most records that a plan of the script is lent.
 const RECORDS: usize = 8;
 
-pub fn run_line(
+pub(crate) fn run_line(
     rt: &LibcRuntime,
     sequencer: &mut Sequencer<Bench>,
     line: &str,

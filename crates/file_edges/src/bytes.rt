@@ -4,7 +4,7 @@ use numbers::write_number;
 use std::alloc::Global;
 use std::error::AnyError;
 
-pub fn bytes_of(heap: Global, words: &str) -> Result<Vec<u8>, AnyError> {
+pub(crate) fn bytes_of(heap: Global, words: &str) -> Result<Vec<u8>, AnyError> {
     let mut bytes = Vec::new(heap);
     for word in words.split(' ') {
         push_word(&mut bytes, word)?;

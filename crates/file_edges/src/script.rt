@@ -8,7 +8,7 @@ use sheet_reader::read_sheet;
 use std::error::AnyError;
 use std::io::Write;
 
-pub fn run_line(rt: &LibcRuntime, line: &str) -> Result<(), AnyError> {
+pub(crate) fn run_line(rt: &LibcRuntime, line: &str) -> Result<(), AnyError> {
     if line.starts_with('#') {
         rt.println(line)?;
         return Ok(());

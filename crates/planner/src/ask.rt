@@ -20,7 +20,7 @@ pub struct Question {
 
 impl Question {
     // The four numbers, with single blanks between them.
-    pub fn read(words: &str) -> Result<Question, AnyError> {
+    pub(crate) fn read(words: &str) -> Result<Question, AnyError> {
         let (start, rest) = cut(words)?;
         let (target, rest) = cut(rest)?;
         let (bound, records) = cut(rest)?;
@@ -41,7 +41,7 @@ fn cut(words: &str) -> Result<(&str, &str), AnyError> {
     }
 }
 
-pub fn ask_measure<P: Plant>(rt: &LibcRuntime, plant: &Tagged<P>, question: Question) -> Result<(), AnyError> {
+pub(crate) fn ask_measure<P: Plant>(rt: &LibcRuntime, plant: &Tagged<P>, question: Question) -> Result<(), AnyError> {
     let mut records = vec![in rt.alloc(); 0u32; question.records]?;
     match measure(plant, question.start, question.target, question.bound, records.as_mut_slice()) {
         Ok(Measured { length, expanded }) => {
@@ -52,7 +52,7 @@ pub fn ask_measure<P: Plant>(rt: &LibcRuntime, plant: &Tagged<P>, question: Ques
     }
 }
 
-pub fn ask_plan<P: Plant>(rt: &LibcRuntime, plant: &Tagged<P>, question: Question) -> Result<(), AnyError> {
+pub(crate) fn ask_plan<P: Plant>(rt: &LibcRuntime, plant: &Tagged<P>, question: Question) -> Result<(), AnyError> {
     let zero = Relayed {
         setting: 0,
         relay: 0,

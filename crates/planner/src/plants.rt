@@ -20,7 +20,7 @@ pub struct Plants {
 }
 
 impl Plants {
-    pub fn new() -> Result<Plants, AnyError> {
+    pub(crate) fn new() -> Result<Plants, AnyError> {
         Ok(Plants {
             bench: Tagged::new(bench_a()?),
             twelve: Tagged::new(twelve_valves()?),

@@ -12,7 +12,7 @@ use tagged::tagged::Tagged;
 use track::track::questions::TrackPlant;
 use valves::bench::questions::BenchPlant;
 
-pub fn run_line(rt: &LibcRuntime, plants: &mut Plants, line: &str) -> Result<(), AnyError> {
+pub(crate) fn run_line(rt: &LibcRuntime, plants: &mut Plants, line: &str) -> Result<(), AnyError> {
     rt.println(line)?;
     if line.starts_with('#') || line.is_empty() {
         return Ok(());

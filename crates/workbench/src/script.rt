@@ -15,7 +15,7 @@ use tagged::tagged::questions::TaggedPlant;
 use track::track::questions::TrackPlant;
 use valves::bench::questions::BenchPlant;
 
-pub fn run_line(rt: &LibcRuntime, shop: &mut Shop, line: &str) -> Result<(), AnyError> {
+pub(crate) fn run_line(rt: &LibcRuntime, shop: &mut Shop, line: &str) -> Result<(), AnyError> {
     rt.println(line)?;
     if line.starts_with('#') || line.is_empty() {
         return Ok(());

@@ -18,7 +18,7 @@ pub struct Shop {
 }
 
 impl Shop {
-    pub fn new() -> Result<Shop, AnyError> {
+    pub(crate) fn new() -> Result<Shop, AnyError> {
         Ok(Shop {
             bench: Tagged::new(bench_a()?),
             track: Tagged::new(ring()?),
