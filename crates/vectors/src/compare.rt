@@ -77,7 +77,7 @@ fn judge_measure(answer: Result<Measured, Refusal>, expected: &Expected) -> Opti
             }
         }
         Err(Refusal::OutOfReach) if expected.length.is_none() => None,
-        Err(_) => Some(Difference::Length),
+        Err(_) => Some(Difference::Refused),
     }
 }
 
@@ -95,7 +95,7 @@ fn judge_plan(answer: Result<Planned, Refusal>, place: &[u16], expected: &Expect
             }
         }
         Err(Refusal::OutOfReach) if expected.length.is_none() => None,
-        Err(_) => Some(Difference::Length),
+        Err(_) => Some(Difference::Refused),
     }
 }
 
