@@ -14,7 +14,7 @@ use std::error::AnyError;
 use tagged::tagged::Tagged;
 use tagged::tagged::questions::TaggedPlant;
 
-pub fn compare_measure<P: Plant>(heap: Global, plant: &Tagged<P>, question: Question, expected: &Expected) -> Result<Option<Difference>, AnyError> {
+pub(crate) fn compare_measure<P: Plant>(heap: Global, plant: &Tagged<P>, question: Question, expected: &Expected) -> Result<Option<Difference>, AnyError> {
     let short = measure_with(heap, plant, question, fewer(expected.need)?)?;
     if !is_overfull(short) {
         return Ok(Some(Difference::Need));
@@ -23,7 +23,7 @@ pub fn compare_measure<P: Plant>(heap: Global, plant: &Tagged<P>, question: Ques
     Ok(judge_measure(answer, expected))
 }
 
-pub fn compare_plan<P: Plant>(heap: Global, plant: &Tagged<P>, question: Question, expected: &Expected) -> Result<Option<Difference>, AnyError> {
+pub(crate) fn compare_plan<P: Plant>(heap: Global, plant: &Tagged<P>, question: Question, expected: &Expected) -> Result<Option<Difference>, AnyError> {
     let mut place = [0u16; 255];
     match plan_with(heap, plant, question, fewer(expected.most)?, &mut place)? {
         Err(Refusal::Overfull) => {}
@@ -77,7 +77,7 @@ fn judge_measure(answer: Result<Measured, Refusal>, expected: &Expected) -> Opti
             }
         }
         Err(Refusal::OutOfReach) if expected.length.is_none() => None,
-        Err(_) => Some(Difference::Length),
+        Err(_) => Some(Difference::Refused),
     }
 }
 
@@ -95,7 +95,7 @@ fn judge_plan(answer: Result<Planned, Refusal>, place: &[u16], expected: &Expect
             }
         }
         Err(Refusal::OutOfReach) if expected.length.is_none() => None,
-        Err(_) => Some(Difference::Length),
+        Err(_) => Some(Difference::Refused),
     }
 }
 

@@ -2,6 +2,7 @@
 #[derive(Clone, Copy)]
 pub enum Difference {
     Tag,
+    Refused,
     Length,
     Expanded,
     Need,
@@ -11,9 +12,10 @@ pub enum Difference {
 }
 
 impl Difference {
-    pub fn text(self) -> &'static str {
+    pub(crate) fn text(self) -> &'static str {
         match self {
             Difference::Tag => "a tag is refused",
+            Difference::Refused => "a search is refused where it is not to be",
             Difference::Length => "the length differs",
             Difference::Expanded => "the settings expanded differ",
             Difference::Need => "the measure is not overfull with one record fewer",

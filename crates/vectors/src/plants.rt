@@ -16,7 +16,7 @@ use valves::bench::Bench;
 use valves::bench::questions::BenchPlant;
 
 // What differs first, if anything does.
-pub fn check(heap: Global, vector: &Vector) -> Result<Option<Difference>, AnyError> {
+pub(crate) fn check(heap: Global, vector: &Vector) -> Result<Option<Difference>, AnyError> {
     if vector.description.stations == 0 {
         let mut plant = Tagged::new(bench(&vector.description)?);
         return check_on(heap, &mut plant, vector);

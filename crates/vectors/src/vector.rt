@@ -42,7 +42,7 @@ pub struct Vector {
 }
 
 impl Vector {
-    pub fn read(heap: Global, line: &str) -> Result<Vector, AnyError> {
+    pub(crate) fn read(heap: Global, line: &str) -> Result<Vector, AnyError> {
         let mut description = Description::empty(heap);
         let mut question = Question {
             start: 0,

@@ -1,0 +1,11 @@
+// Tests of measure and plan on small benches and tracks.
+mod place;
+
+#[cfg(test)]
+mod asks;
+#[cfg(test)]
+mod bench_a;
+#[cfg(test)]
+mod records;
+#[cfg(test)]
+mod ways;
