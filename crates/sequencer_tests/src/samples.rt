@@ -16,7 +16,7 @@ use valves::interlock::Interlock;
 
 // Two valves of 3 and 2 positions; valve 0 may not move into or out of position 2 while valve 1 stands at 0.
 // Operations 0 and 1 move valve 0 up and down, and 2 and 3 move valve 1.
-pub fn bench_a() -> Result<Bench, Fail> {
+pub(crate) fn bench_a() -> Result<Bench, Fail> {
     let interlock = Interlock {
         valve: 0,
         position: 2,
@@ -27,16 +27,16 @@ pub fn bench_a() -> Result<Bench, Fail> {
 }
 
 // A sequencer over bench A.
-pub fn sequencer_a() -> Result<Sequencer<Bench>, Fail> {
+pub(crate) fn sequencer_a() -> Result<Sequencer<Bench>, Fail> {
     Ok(Sequencer::new(bench_a()?))
 }
 
-pub fn track_of(stations: u16, links: &[Link]) -> Result<Track, Fail> {
+pub(crate) fn track_of(stations: u16, links: &[Link]) -> Result<Track, Fail> {
     Ok(Track::new(stations, links)?)
 }
 
 // 256 stations in a row: operation 0 joins 0 and 1, and operation 254 joins 254 and 255.
-pub fn row_of_stations(rt: &LibcRuntime) -> Result<Track, Fail> {
+pub(crate) fn row_of_stations(rt: &LibcRuntime) -> Result<Track, Fail> {
     let mut links = Vec::new(rt.alloc());
     for one in 0..255u16 {
         let _ = links.push(Link {
@@ -104,7 +104,7 @@ pub struct Told<'a> {
 }
 
 // Told where no list is in hand.
-pub fn bare(setting: u32, tags: &[u16]) -> Told<'_> {
+pub(crate) fn bare(setting: u32, tags: &[u16]) -> Told<'_> {
     Told {
         setting,
         tags,
@@ -115,7 +115,7 @@ pub fn bare(setting: u32, tags: &[u16]) -> Told<'_> {
 }
 
 // Told of a list in hand, with the number of its operations.
-pub fn listed<'a>(
+pub(crate) fn listed<'a>(
     setting: u32,
     tags: &'a [u16],
     target: u32,
@@ -144,7 +144,7 @@ fn is_among(operations: &[u16], wanted: u16) -> bool {
 }
 
 // The answers to all questions.
-pub fn check_told<P: Plant>(sequencer: &Sequencer<P>, told: Told<'_>) -> Result<(), Fail> {
+pub(crate) fn check_told<P: Plant>(sequencer: &Sequencer<P>, told: Told<'_>) -> Result<(), Fail> {
     check_eq(sequencer.setting(), told.setting)?;
     check_eq(sequencer.target(), told.target)?;
     check_eq(sequencer.length(), told.length)?;
@@ -161,7 +161,7 @@ pub fn check_told<P: Plant>(sequencer: &Sequencer<P>, told: Told<'_>) -> Result<
 }
 
 // Calls that are accepted, with what is told after each.
-pub fn check_accepted<P: Plant>(
+pub(crate) fn check_accepted<P: Plant>(
     sequencer: &mut Sequencer<P>,
     rows: &[(Call, Told<'_>)],
 ) -> Result<(), Fail> {
@@ -174,7 +174,7 @@ pub fn check_accepted<P: Plant>(
 }
 
 // Calls that are refused; the same is told before and after each.
-pub fn check_refused<P: Plant>(
+pub(crate) fn check_refused<P: Plant>(
     sequencer: &mut Sequencer<P>,
     told: Told<'_>,
     rows: &[(Call, Refusal)],
