@@ -36,7 +36,7 @@ pub(crate) fn track(stations: u16, links: &[Link]) -> Result<Track, Fail> {
     }
 }
 
-// A record that no search leaves.
+// A record that no call leaves.
 pub(crate) fn used() -> Relayed {
     Relayed {
         setting: 77,

@@ -1,4 +1,4 @@
-// What a search leaves in the records: zero after a list and after the refusals 6 and 7, and what they held after 4
+// What measure and plan leave in the records: zero after a list and after the refusals 6 and 7, and what they held after 4
 // and 5.
 use crate::asks::bench_a;
 use crate::asks::measure_in;
@@ -25,7 +25,7 @@ const ZERO: Relayed = Relayed {
 };
 
 #[test]
-fn zero_after_a_search() -> Result<(), Fail> {
+fn zero_after_layers() -> Result<(), Fail> {
     let bench = bench_a()?;
     let mut place = [0u16; 255];
     let mut records = [used(); 6];
@@ -40,7 +40,7 @@ fn zero_after_a_search() -> Result<(), Fail> {
 }
 
 #[test]
-fn as_they_were_without_a_search() -> Result<(), Fail> {
+fn as_they_were_without_layers() -> Result<(), Fail> {
     let bench = bench_a()?;
     let mut place = [0u16; 255];
     let mut records = [used(); 6];

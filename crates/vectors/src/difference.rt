@@ -15,7 +15,7 @@ impl Difference {
     pub(crate) fn text(self) -> &'static str {
         match self {
             Difference::Tag => "a tag is refused",
-            Difference::Refused => "a search is refused where it is not to be",
+            Difference::Refused => "a leg is refused where it is not to be",
             Difference::Length => "the length differs",
             Difference::Expanded => "the settings expanded differ",
             Difference::Need => "the measure is not overfull with one record fewer",
