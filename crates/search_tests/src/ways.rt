@@ -1,4 +1,4 @@
-// Two ways of equal length, a leg that ends in an empty layer, and a later leg that needs more than the first.
+// Two ways of equal length, equal links, a leg that ends in an empty layer, and a later leg that needs more than the first.
 use crate::asks::ask_measure;
 use crate::asks::ask_plan;
 use crate::asks::bench;
@@ -28,6 +28,22 @@ fn the_earliest_way() -> Result<(), Fail> {
     check_eq(ask_plan(&ring, 0, 4, 255, 5, &mut place), Err(6))?;
     check_eq(ask_plan(&ring, 0, 4, 255, 6, &mut place), Ok((4, 20)))?;
     check(is_written(&place, &[1, 7, 6, 5]))
+}
+
+// Links 0 and 1 join the same stations: the lower one is taken, both ways.
+#[test]
+fn equal_links() -> Result<(), Fail> {
+    let links = [
+        Link { one: 0, other: 1 },
+        Link { one: 1, other: 0 },
+        Link { one: 1, other: 2 },
+    ];
+    let track = track(3, &links)?;
+    let mut place = [9u16; 255];
+    check_eq(ask_plan(&track, 0, 1, 255, 2, &mut place), Ok((1, 1)))?;
+    check(is_written(&place, &[0]))?;
+    check_eq(ask_plan(&track, 2, 0, 255, 3, &mut place), Ok((2, 4)))?;
+    check(is_written(&place, &[2, 0]))
 }
 
 // Station 2 has no link: the second layer from 0 is empty.
