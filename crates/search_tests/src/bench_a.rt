@@ -4,6 +4,8 @@ use crate::asks::ask_plan;
 use crate::asks::bench_a;
 use crate::place::is_all;
 use crate::place::is_written;
+use crate::unguided::Unguided;
+use crate::unguided::UnguidedPlant;
 use std::test::*;
 use valves::bench::questions::BenchPlant;
 
@@ -51,4 +53,17 @@ fn plans_in_place() -> Result<(), Fail> {
     check(is_all(&place, 9))?;
     check_eq(ask_plan(&bench, 0, 0, 0, 1, &mut place), Ok((0, 0)))?;
     check(is_all(&place, 0))
+}
+
+// Without an estimate nothing is cut before the bound: legs need more records and expand more, and the list is the same.
+#[test]
+fn plans_without_an_estimate() -> Result<(), Fail> {
+    let bench = Unguided { below: bench_a()? };
+    let mut place = [9u16; 255];
+    check_eq(ask_measure(&bench, 0, 2, 3, 3), Err(6))?;
+    check_eq(ask_measure(&bench, 0, 2, 3, 4), Err(7))?;
+    check_eq(ask_measure(&bench, 0, 2, 4, 4), Ok((4, 5)))?;
+    check_eq(ask_plan(&bench, 0, 2, 4, 5, &mut place), Err(6))?;
+    check_eq(ask_plan(&bench, 0, 2, 4, 6, &mut place), Ok((4, 17)))?;
+    check(is_written(&place, &[0, 2, 0, 3]))
 }

@@ -1,5 +1,6 @@
 // Tests of measure and plan on small benches and tracks.
 mod place;
+mod unguided;
 
 #[cfg(test)]
 mod asks;
