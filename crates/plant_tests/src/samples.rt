@@ -12,7 +12,7 @@ use valves::bench::questions::BenchPlant;
 use valves::fault::BenchFaultDebug;
 use valves::interlock::Interlock;
 
-pub fn lock(valve: u8, position: u8, other: u8, stands: u8) -> Interlock {
+pub(crate) fn lock(valve: u8, position: u8, other: u8, stands: u8) -> Interlock {
     Interlock {
         valve,
         position,
@@ -21,30 +21,30 @@ pub fn lock(valve: u8, position: u8, other: u8, stands: u8) -> Interlock {
     }
 }
 
-pub fn bench_of(positions: &[u8], interlocks: &[Interlock]) -> Result<Bench, Fail> {
+pub(crate) fn bench_of(positions: &[u8], interlocks: &[Interlock]) -> Result<Bench, Fail> {
     Ok(Bench::new(positions, interlocks)?)
 }
 
 // Two valves of 3 and 2 positions; valve 0 may not move into or out of position 2 while valve 1 stands at 0.
-pub fn bench_a() -> Result<Bench, Fail> {
+pub(crate) fn bench_a() -> Result<Bench, Fail> {
     bench_of(&[3, 2], &[lock(0, 2, 1, 0)])
 }
 
 // Twelve valves of four positions: 16,777,216 settings, the most that a plant has.
-pub fn largest_bench() -> Result<Bench, Fail> {
+pub(crate) fn largest_bench() -> Result<Bench, Fail> {
     bench_of(&[4; 12], &[])
 }
 
-pub fn link(one: u16, other: u16) -> Link {
+pub(crate) fn link(one: u16, other: u16) -> Link {
     Link { one, other }
 }
 
-pub fn track_of(stations: u16, links: &[Link]) -> Result<Track, Fail> {
+pub(crate) fn track_of(stations: u16, links: &[Link]) -> Result<Track, Fail> {
     Ok(Track::new(stations, links)?)
 }
 
 // A ring of four stations, and a spur from station 2 to station 4.
-pub fn ring() -> Result<Track, Fail> {
+pub(crate) fn ring() -> Result<Track, Fail> {
     track_of(
         5,
         &[link(0, 1), link(1, 2), link(2, 3), link(3, 0), link(2, 4)],
@@ -52,19 +52,19 @@ pub fn ring() -> Result<Track, Fail> {
 }
 
 // Stations without a link.
-pub fn yard(stations: u16) -> Result<Track, Fail> {
+pub(crate) fn yard(stations: u16) -> Result<Track, Fail> {
     track_of(stations, &[])
 }
 
 // Bench A, with the ring beside it: 30 settings, and operations 0 to 3 of the bench and 4 to 8 of the ring.
-pub fn bench_and_ring() -> Result<Pair<Bench, Track>, Fail> {
+pub(crate) fn bench_and_ring() -> Result<Pair<Bench, Track>, Fail> {
     Ok(Pair::new(bench_a()?, ring()?))
 }
 
 // A setting, an operation, and where it leads.
 pub type Row = (u32, u16, Option<u32>);
 
-pub fn check_steps<P: Plant>(plant: &P, rows: &[Row]) -> Result<(), Fail> {
+pub(crate) fn check_steps<P: Plant>(plant: &P, rows: &[Row]) -> Result<(), Fail> {
     for row in rows {
         let (setting, operation, to) = *row;
         check_eq(plant.step(setting, operation), to).note(format_args!(
@@ -75,7 +75,7 @@ pub fn check_steps<P: Plant>(plant: &P, rows: &[Row]) -> Result<(), Fail> {
 }
 
 // Two settings and their estimate.
-pub fn check_estimates<P: Plant>(plant: &P, rows: &[(u32, u32, u16)]) -> Result<(), Fail> {
+pub(crate) fn check_estimates<P: Plant>(plant: &P, rows: &[(u32, u32, u16)]) -> Result<(), Fail> {
     for row in rows {
         let (from, to, estimate) = *row;
         check_eq(plant.estimate(from, to), estimate).note(format_args!("from {from} to {to}"))?;
@@ -84,7 +84,7 @@ pub fn check_estimates<P: Plant>(plant: &P, rows: &[(u32, u32, u16)]) -> Result<
 }
 
 // An operation and its reverse.
-pub fn check_reverses<P: Plant>(plant: &P, rows: &[(u16, u16)]) -> Result<(), Fail> {
+pub(crate) fn check_reverses<P: Plant>(plant: &P, rows: &[(u16, u16)]) -> Result<(), Fail> {
     for row in rows {
         let (operation, back) = *row;
         check_eq(plant.reverse(operation), back).note(format_args!("operation {operation}"))?;
@@ -93,7 +93,7 @@ pub fn check_reverses<P: Plant>(plant: &P, rows: &[(u16, u16)]) -> Result<(), Fa
 }
 
 // The numbers of settings and operations.
-pub fn check_size<P: Plant>(plant: &P, settings: u32, operations: u16) -> Result<(), Fail> {
+pub(crate) fn check_size<P: Plant>(plant: &P, settings: u32, operations: u16) -> Result<(), Fail> {
     check_eq(plant.settings(), settings)?;
     check_eq(plant.operations(), operations)
 }
@@ -108,7 +108,7 @@ pub struct Examples<'a> {
     pub estimates: &'a [(u32, u32, u16)],
 }
 
-pub fn check_examples<P: Plant>(plant: &P, examples: Examples<'_>) -> Result<(), Fail> {
+pub(crate) fn check_examples<P: Plant>(plant: &P, examples: Examples<'_>) -> Result<(), Fail> {
     check_size(plant, examples.settings, examples.operations)?;
     check_steps(plant, examples.steps)?;
     check_reverses(plant, examples.reverses)?;
