@@ -12,7 +12,10 @@ use crate::states::OpenSheet;
 use crate::write::write_head;
 
 impl EmptySheet {
-    pub fn new() -> EmptySheet {
+    // There is one empty sheet: it holds nothing.
+    pub fn new() -> EmptySheet
+        ensures { λ r. ⌜ r ≡ record {} ⌝ }
+    {
         EmptySheet {}
     }
 
