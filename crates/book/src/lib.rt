@@ -1,4 +1,6 @@
 // A book: a file of benches, tracks and jobs, with no steps body.
+#![tactic(auto)]
+
 ghost use Rattle.std.specs.Prelude.{◌≡◌};
 ghost use Rattle.file.specs.Files.{file_bytes, file_fault, entry_of};
 ghost use Rattle.book.specs.Book.{is_steps, first_steps, book_fault_in, book_fault};

@@ -26,7 +26,7 @@ pub(crate) fn answer_on<P: Plant>(
     index: &mut [u32],
 ) -> Answer
     requires { length records.old ≡ 8192 }
-    ensures { Told (steps_on job (meaning plant.now)) result }
+    ensures { Told (steps_on job (P.meaning plant.now)) result }
 {
     let mut list = [0u16; 255];
     match plan_with_index(

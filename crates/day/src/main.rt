@@ -1,5 +1,7 @@
 // Works a day at the sequencer of a small bench, as a script on standard input says: prints each call, its answer, and
 // what the sequencer tells after it.
+#![tactic(auto)]
+
 mod bench;
 mod lamps;
 mod script;

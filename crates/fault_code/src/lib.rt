@@ -1,4 +1,6 @@
 // A fault as one number.
+#![tactic(auto)]
+
 ghost use Rattle.std.specs.Prelude.{◌≡◌};
 ghost use Rattle.fault_code.specs.Codes.{code_of, ByteFits};
 

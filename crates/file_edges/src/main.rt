@@ -1,4 +1,6 @@
 // Reads files at the edges of each check, made as a script on standard input says, and prints what is told of each.
+#![tactic(auto)]
+
 mod bytes;
 mod script;
 

@@ -1,5 +1,7 @@
 // Legs and plans: the definitions of layers, length, expanded settings and need, of the legs of a plan and of its
 // answer, and their laws over every lawful plant.
+#![tactic(auto)]
+
 ghost use Rattle.legs.specs.Laws.{LegsLawful};
 ghost use Rattle.legs.specs.PlanLaws.{PlansLawful};
 

@@ -1,4 +1,6 @@
 // Measures a leg: its length, and how many settings it expands.
+#![tactic(auto)]
+
 ghost use Rattle.std.specs.Prelude.{◌≡◌, length};
 ghost use Rattle.legs.specs.Laws.{LegLaws};
 ghost use Rattle.legs.specs.PlanLaws.{Measures};
@@ -27,10 +29,10 @@ pub fn measure<P: Plant>(
     bound: u16,
     records: &mut [u32],
 ) -> Result<Measured, Refusal>
-    ensures answer { Answers (meaning plant.now) (leg start target bound) (length records.old) result }
-    ensures records { records.new ≡ search_leaves 0 (meaning plant.now) (leg start target bound) records.old }
-    ensures laws { LegLaws (meaning plant.now) }
-    ensures least { Measures (meaning plant.now) }
+    ensures answer { Answers (P.meaning plant.now) (leg start target bound) (length records.old) result }
+    ensures records { records.new ≡ search_leaves 0 (P.meaning plant.now) (leg start target bound) records.old }
+    ensures laws { LegLaws (P.meaning plant.now) }
+    ensures least { Measures (P.meaning plant.now) }
 {
     measure_with_index(plant, start, target, bound, records, &mut [])
 }
@@ -45,10 +47,10 @@ pub fn measure_with_index<P: Plant>(
     records: &mut [u32],
     index: &mut [u32],
 ) -> Result<Measured, Refusal>
-    ensures answer { Answers (meaning plant.now) (leg start target bound) (length records.old) result }
-    ensures records { records.new ≡ search_leaves 0 (meaning plant.now) (leg start target bound) records.old }
-    ensures laws { LegLaws (meaning plant.now) }
-    ensures least { Measures (meaning plant.now) }
+    ensures answer { Answers (P.meaning plant.now) (leg start target bound) (length records.old) result }
+    ensures records { records.new ≡ search_leaves 0 (P.meaning plant.now) (leg start target bound) records.old }
+    ensures laws { LegLaws (P.meaning plant.now) }
+    ensures least { Measures (P.meaning plant.now) }
 {
     match search_leg_with_index(plant, start, target, bound, 0, records, index) {
         Ok(

@@ -1,4 +1,6 @@
 // Unsigned numbers in bytes, low byte first.
+#![tactic(auto)]
+
 ghost use Rattle.std.specs.Prelude.{◌≡◌, ◌+◌, ◌*◌, [], ◌∷◌, length};
 ghost use Rattle.numbers.specs.Low.{low, value};
 

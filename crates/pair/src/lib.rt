@@ -1,2 +1,4 @@
 // Pairs: two plants run as one.
+#![tactic(auto)]
+
 pub mod pair;

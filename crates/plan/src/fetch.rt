@@ -19,12 +19,12 @@ pub(crate) fn fetch<P: Plant>(
     index: &mut [u32],
     list: &mut [u16],
 ) -> Option<u64>
-    requires start { start < (meaning plant.now).settings }
-    requires target { target < (meaning plant.now).settings }
+    requires start { start < (P.meaning plant.now).settings }
+    requires target { target < (P.meaning plant.now).settings }
     requires short { count ≤ 255 }
     requires long { length list.old ≡ count }
-    requires distance { Distance (meaning plant.now) count start target }
-    ensures { Fetched (meaning plant.now) count start target (length records.old) list.new result }
+    requires distance { Distance (P.meaning plant.now) count start target }
+    ensures { Fetched (P.meaning plant.now) count start target (length records.old) list.new result }
 {
     if count == 0 {
         return Some(0);

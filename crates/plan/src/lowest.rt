@@ -6,7 +6,7 @@ use plant::plant::Plant;
 
 // The lowest operation that steps from start to target, or none.
 pub(crate) fn lowest_step<P: Plant>(plant: &P, start: u32, target: u32) -> Option<u16>
-    ensures { Lowest (meaning plant.now) start target result }
+    ensures { Lowest (P.meaning plant.now) start target result }
 {
     for operation in 0..plant.operations() {
         if steps_to(plant, start, operation, target) {
@@ -18,7 +18,7 @@ pub(crate) fn lowest_step<P: Plant>(plant: &P, start: u32, target: u32) -> Optio
 
 // Whether the operation steps from start to target.
 fn steps_to<P: Plant>(plant: &P, start: u32, operation: u16, target: u32) -> bool
-    ensures { TellsStep (meaning plant.now) start operation target result }
+    ensures { TellsStep (P.meaning plant.now) start operation target result }
 {
     match plant.step(start, operation) {
         Some(setting) => setting == target,

@@ -33,9 +33,9 @@ pub fn plan<P: Plant>(
     records: &mut [Relayed],
     list: &mut [u16; 255],
 ) -> Result<Planned, Refusal>
-    ensures answer { Answers (meaning plant.now) (leg start target bound) (length records.old) list.old list.new result }
-    ensures records { records.new ≡ search_leaves relay_blank (meaning plant.now) (leg start target bound) records.old }
-    ensures laws { PlanLaws (meaning plant.now) }
+    ensures answer { Answers (P.meaning plant.now) (leg start target bound) (length records.old) list.old list.new result }
+    ensures records { records.new ≡ search_leaves relay_blank (P.meaning plant.now) (leg start target bound) records.old }
+    ensures laws { PlanLaws (P.meaning plant.now) }
 {
     plan_with_index(plant, start, target, bound, records, &mut [], list)
 }
@@ -51,9 +51,9 @@ pub fn plan_with_index<P: Plant>(
     index: &mut [u32],
     list: &mut [u16; 255],
 ) -> Result<Planned, Refusal>
-    ensures answer { Answers (meaning plant.now) (leg start target bound) (length records.old) list.old list.new result }
-    ensures records { records.new ≡ search_leaves relay_blank (meaning plant.now) (leg start target bound) records.old }
-    ensures laws { PlanLaws (meaning plant.now) }
+    ensures answer { Answers (P.meaning plant.now) (leg start target bound) (length records.old) list.old list.new result }
+    ensures records { records.new ≡ search_leaves relay_blank (P.meaning plant.now) (leg start target bound) records.old }
+    ensures laws { PlanLaws (P.meaning plant.now) }
 {
     let mut place = [0u16; 255];
     match find_list(plant, start, target, bound, records, index, &mut place) {
@@ -80,8 +80,8 @@ fn find_list<P: Plant>(
     place: &mut [u16],
 ) -> Result<Planned, Refusal>
     requires { place.old ≡ replicate 255 0 }
-    ensures found { Found (meaning plant.now) (leg start target bound) (length records.old) place.new result }
-    ensures kept { (outside (meaning plant.now) (leg start target bound) || too_high (leg start target bound)) ≡ true → records.new ≡ records.old }
+    ensures found { Found (P.meaning plant.now) (leg start target bound) (length records.old) place.new result }
+    ensures kept { (outside (P.meaning plant.now) (leg start target bound) || too_high (leg start target bound)) ≡ true → records.new ≡ records.old }
 {
     match search_leg_with_index(plant, start, target, bound, 0, records, index) {
         Ok(reached) => {

@@ -1,5 +1,7 @@
 // Measures and plans on two valve benches, a track and a pair, as a script on standard input says, and prints each
 // answer with the settings that a list passes.
+#![tactic(auto)]
+
 mod ask;
 mod plants;
 mod script;

@@ -24,9 +24,9 @@ fn measure_on<P: Plant>(
     index: &mut [u32],
     expanded: &mut u64,
 ) -> u64
-    ensures answer { result ≡ measure_code (measured (meaning plant.now) (leg start target bound) (length records.old)) }
-    ensures count { expanded.new ≡ count_told (measured (meaning plant.now) (leg start target bound) (length records.old)) expanded.old }
-    ensures records { records.new ≡ search_leaves 0 (meaning plant.now) (leg start target bound) records.old }
+    ensures answer { result ≡ measure_code (measured (P.meaning plant.now) (leg start target bound) (length records.old)) }
+    ensures count { expanded.new ≡ count_told (measured (P.meaning plant.now) (leg start target bound) (length records.old)) expanded.old }
+    ensures records { records.new ≡ search_leaves 0 (P.meaning plant.now) (leg start target bound) records.old }
 {
     match measure_with_index(plant, start, target, bound, records, index) {
         Ok(measured) => {

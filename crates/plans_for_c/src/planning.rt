@@ -26,10 +26,10 @@ fn plan_on<P: Plant>(
     count: &mut u64,
 ) -> u64
     requires { length list.old ≡ 255 }
-    ensures answer { result ≡ plan_code (planned (meaning plant.now) (leg start target bound) (length records.old)) }
-    ensures list { list.new ≡ list_told (planned (meaning plant.now) (leg start target bound) (length records.old)) list.old }
-    ensures count { count.new ≡ count_told (planned (meaning plant.now) (leg start target bound) (length records.old)) count.old }
-    ensures records { records.new ≡ search_leaves relay_blank (meaning plant.now) (leg start target bound) records.old }
+    ensures answer { result ≡ plan_code (planned (P.meaning plant.now) (leg start target bound) (length records.old)) }
+    ensures list { list.new ≡ list_told (planned (P.meaning plant.now) (leg start target bound) (length records.old)) list.old }
+    ensures count { count.new ≡ count_told (planned (P.meaning plant.now) (leg start target bound) (length records.old)) count.old }
+    ensures records { records.new ≡ search_leaves relay_blank (P.meaning plant.now) (leg start target bound) records.old }
 {
     let mut place = [0u16; 255];
     match plan_with_index(plant, start, target, bound, records, index, &mut place) {

@@ -7,14 +7,14 @@ use crate::plant::Plant;
 
 // The setting that the operations lead to from the start, one after another; none where one of them has no step.
 pub fn follow<P: Plant>(plant: &P, start: u32, operations: &[u16]) -> Option<u32>
-    ensures exact { result ≡ after (meaning plant.now) start operations.now }
-    ensures leads { (t : ℕ) → (result ≡ Some t) ↔ Leads (meaning plant.now) start operations.now t }
+    ensures exact { result ≡ after (P.meaning plant.now) start operations.now }
+    ensures leads { (t : ℕ) → (result ≡ Some t) ↔ Leads (P.meaning plant.now) start operations.now t }
 {
     walk(plant, start, operations)
 }
 
 fn walk<P: Plant>(plant: &P, start: u32, operations: &[u16]) -> Option<u32>
-    ensures { result ≡ after (meaning plant.now) start operations.now }
+    ensures { result ≡ after (P.meaning plant.now) start operations.now }
 {
     let mut setting = start;
     for operation in operations {

@@ -1,3 +1,5 @@
 // The bodies of benches and tracks in a file: which fault comes first.
+#![tactic(auto)]
+
 pub mod bench_body;
 pub mod track_body;

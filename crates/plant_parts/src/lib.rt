@@ -1,3 +1,5 @@
 // The bodies of benches and tracks taken apart: numbers of positions and interlocks, stations and links.
+#![tactic(auto)]
+
 pub mod bench_parts;
 pub mod track_parts;

@@ -1,5 +1,7 @@
 // Worked examples of every kind of plant, run as tests. They stand in a crate of their own, since a crate with tests is
 // proved twice.
+#![tactic(auto)]
+
 #[cfg(test)]
 mod bench_data;
 #[cfg(test)]

@@ -1,4 +1,6 @@
 // Runs of the definitions on bench A: what measure and plan answer there, worked out and proved.
+#![tactic(auto)]
+
 ghost use Rattle.runs.specs.Runs.{Runs};
 
 // Carries the runs on bench A, all of them as one statement.

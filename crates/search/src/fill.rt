@@ -24,7 +24,7 @@ impl<'a, R: Record> Store<'a, R> {
         to: u32,
     ) -> bool
         requires { Ready R.Record.tells (L.Lookup.follows lookup.old) self.old }
-        ensures taken { Taken R.Record.tells (L.Lookup.follows lookup.new) self.old self.new (arriving R.Record.tells (meaning plant.now) (leg_of leg.now) depth (R.Record.carries leg.now.half depth from) self.old (Some to)) result }
+        ensures taken { Taken R.Record.tells (L.Lookup.follows lookup.new) self.old self.new (arriving R.Record.tells (P.meaning plant.now) (leg_of leg.now) depth (R.Record.carries leg.now.half depth from) self.old (Some to)) result }
         ensures lender { self.new.room.ghost_name ≡ self.old.room.ghost_name }
     {
         if self.meets(lookup, to) {
@@ -47,7 +47,7 @@ impl<'a, R: Record> Store<'a, R> {
         operation: u16,
     ) -> bool
         requires { Ready R.Record.tells (L.Lookup.follows lookup.old) self.old }
-        ensures taken { Taken R.Record.tells (L.Lookup.follows lookup.new) self.old self.new (arriving R.Record.tells (meaning plant.now) (leg_of leg.now) depth (R.Record.carries leg.now.half depth from) self.old ((meaning plant.now).step (R.Record.tells from) operation)) result }
+        ensures taken { Taken R.Record.tells (L.Lookup.follows lookup.new) self.old self.new (arriving R.Record.tells (P.meaning plant.now) (leg_of leg.now) depth (R.Record.carries leg.now.half depth from) self.old ((P.meaning plant.now).step (R.Record.tells from) operation)) result }
         ensures lender { self.new.room.ghost_name ≡ self.old.room.ghost_name }
     {
         match plant.step(from.setting(), operation) {
@@ -68,8 +68,8 @@ impl<'a, R: Record> Store<'a, R> {
         requires ready { Ready R.Record.tells (L.Lookup.follows lookup.old) self.old }
         requires place { place < self.old.present }
         requires depth { depth < 65535 }
-        requires stands { Stands (meaning plant.now) (kind R.Record.tells R.Record.opens R.Record.carries leg.now.half) (leg_of leg.now) depth (filled_by (meaning plant.now) (kind R.Record.tells R.Record.opens R.Record.carries leg.now.half) (leg_of leg.now) depth place) self.old }
-        ensures expanded { Expanded R.Record.tells (L.Lookup.follows lookup.new) (meaning plant.now) (kind R.Record.tells R.Record.opens R.Record.carries leg.now.half) (leg_of leg.now) depth (place + 1) self.old self.new result }
+        requires stands { Stands (P.meaning plant.now) (kind R.Record.tells R.Record.opens R.Record.carries leg.now.half) (leg_of leg.now) depth (filled_by (P.meaning plant.now) (kind R.Record.tells R.Record.opens R.Record.carries leg.now.half) (leg_of leg.now) depth place) self.old }
+        ensures expanded { Expanded R.Record.tells (L.Lookup.follows lookup.new) (P.meaning plant.now) (kind R.Record.tells R.Record.opens R.Record.carries leg.now.half) (leg_of leg.now) depth (place + 1) self.old self.new result }
         ensures lender { self.new.room.ghost_name ≡ self.old.room.ghost_name }
     {
         let at = self.before + place;
@@ -92,8 +92,8 @@ impl<'a, R: Record> Store<'a, R> {
     ) -> bool
         requires ready { Ready R.Record.tells (L.Lookup.follows lookup.old) self.old }
         requires depth { depth < 65535 }
-        requires stands { Stands (meaning plant.now) (kind R.Record.tells R.Record.opens R.Record.carries leg.now.half) (leg_of leg.now) depth [] self.old }
-        ensures completed { Completed R.Record.tells (L.Lookup.follows lookup.new) (meaning plant.now) (kind R.Record.tells R.Record.opens R.Record.carries leg.now.half) (leg_of leg.now) depth self.old self.new result }
+        requires stands { Stands (P.meaning plant.now) (kind R.Record.tells R.Record.opens R.Record.carries leg.now.half) (leg_of leg.now) depth [] self.old }
+        ensures completed { Completed R.Record.tells (L.Lookup.follows lookup.new) (P.meaning plant.now) (kind R.Record.tells R.Record.opens R.Record.carries leg.now.half) (leg_of leg.now) depth self.old self.new result }
         ensures lender { self.new.room.ghost_name ≡ self.old.room.ghost_name }
     {
         let count = self.present;

@@ -16,7 +16,7 @@ pub(crate) struct Leg {
 impl Leg {
     // Whether a setting met at the depth may still reach the target within the bound, as far as the estimate tells.
     pub(crate) fn admits<P: Plant>(&self, plant: &P, depth: u16, setting: u32) -> bool
-        ensures { result ≡ fits (meaning plant.now) (leg_of self.now) depth setting }
+        ensures { result ≡ fits (P.meaning plant.now) (leg_of self.now) depth setting }
     {
         plant.estimate(setting, self.target) as u32 + depth as u32 <= self.bound as u32
     }

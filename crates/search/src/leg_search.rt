@@ -37,8 +37,8 @@ pub fn search_leg<P: Plant, R: Record>(
     half: u16,
     records: &mut [R],
 ) -> Result<Reached<R>, Refusal>
-    ensures answer { LegAnswer (meaning plant.now) (kind R.Record.tells R.Record.opens R.Record.carries half) (leg start target bound) (length records.old) result }
-    ensures records { records.new ≡ leg_leaves R.Record.blank (meaning plant.now) (leg start target bound) records.old }
+    ensures answer { LegAnswer (P.meaning plant.now) (kind R.Record.tells R.Record.opens R.Record.carries half) (leg start target bound) (length records.old) result }
+    ensures records { records.new ≡ leg_leaves R.Record.blank (P.meaning plant.now) (leg start target bound) records.old }
 {
     search_leg_with_index(plant, start, target, bound, half, records, &mut [])
 }
@@ -54,8 +54,8 @@ pub fn search_leg_with_index<P: Plant, R: Record>(
     records: &mut [R],
     index: &mut [u32],
 ) -> Result<Reached<R>, Refusal>
-    ensures answer { LegAnswer (meaning plant.now) (kind R.Record.tells R.Record.opens R.Record.carries half) (leg start target bound) (length records.old) result }
-    ensures records { records.new ≡ leg_leaves R.Record.blank (meaning plant.now) (leg start target bound) records.old }
+    ensures answer { LegAnswer (P.meaning plant.now) (kind R.Record.tells R.Record.opens R.Record.carries half) (leg start target bound) (length records.old) result }
+    ensures records { records.new ≡ leg_leaves R.Record.blank (P.meaning plant.now) (leg start target bound) records.old }
 {
     let settings = plant.settings();
     if start >= settings {
@@ -83,10 +83,10 @@ fn search_within<P: Plant, R: Record>(
     records: &mut [R],
     index: &mut [u32],
 ) -> Result<Reached<R>, Refusal>
-    requires start { leg.now.start < (meaning plant.now).settings }
+    requires start { leg.now.start < (P.meaning plant.now).settings }
     requires bound { leg.now.bound ≤ 255 }
-    ensures answer { Searched (meaning plant.now) (kind R.Record.tells R.Record.opens R.Record.carries leg.now.half) (leg_of leg.now) (length records.old) result }
-    ensures records { records.new ≡ zeroed R.Record.blank (need (meaning plant.now) (leg_of leg.now)) records.old }
+    ensures answer { Searched (P.meaning plant.now) (kind R.Record.tells R.Record.opens R.Record.carries leg.now.half) (leg_of leg.now) (length records.old) result }
+    ensures records { records.new ≡ zeroed R.Record.blank (need (P.meaning plant.now) (leg_of leg.now)) records.old }
 {
     let all = records.len();
     if all == 0 {
@@ -120,10 +120,10 @@ fn walk_by<P: Plant, R: Record>(
     records: &mut [R],
     index: &mut [u32],
 ) -> Option<Walk<R>>
-    requires start { leg.now.start < (meaning plant.now).settings }
+    requires start { leg.now.start < (P.meaning plant.now).settings }
     requires bound { leg.now.bound ≤ 255 }
     requires some { 1 ≤ length records.old }
-    ensures { RunThrough (meaning plant.now) (kind R.Record.tells R.Record.opens R.Record.carries leg.now.half) (leg_of leg.now) records.old records.new result }
+    ensures { RunThrough (P.meaning plant.now) (kind R.Record.tells R.Record.opens R.Record.carries leg.now.half) (leg_of leg.now) records.old records.new result }
 {
     let words = (plant.settings() as usize + 31) / 32;
     if words <= index.len() {

@@ -1,4 +1,6 @@
 // The walk of one leg, layer by layer, in a workspace of records that the caller lends.
+#![tactic(auto)]
+
 pub mod chains;
 pub mod clear;
 pub mod fill;

@@ -68,10 +68,10 @@ pub(crate) fn walk_leg<P: Plant, R: Record, L: Lookup<R>>(
     lookup: &mut L,
 ) -> Option<Walk<R>>
     requires follows { L.Lookup.follows lookup.old [] }
-    requires start { leg.now.start < (meaning plant.now).settings }
+    requires start { leg.now.start < (P.meaning plant.now).settings }
     requires bound { leg.now.bound ≤ 255 }
     requires some { 1 ≤ length records.old }
-    ensures run { RunThrough (meaning plant.now) (kind R.Record.tells R.Record.opens R.Record.carries leg.now.half) (leg_of leg.now) records.old records.new result }
+    ensures run { RunThrough (P.meaning plant.now) (kind R.Record.tells R.Record.opens R.Record.carries leg.now.half) (leg_of leg.now) records.old records.new result }
     ensures cleared { L.Lookup.follows lookup.new [] }
 {
     let mut store = Store {

@@ -27,7 +27,7 @@ impl<'a, R: Record> Store<'a, R> {
         requires ready { Ready R.Record.tells (L.Lookup.follows lookup.old) self.old }
         requires empty { count self.old ≡ 0 }
         requires some { 1 ≤ length (room_of self.old) }
-        ensures begun { Begun R.Record.tells (L.Lookup.follows lookup.new) (meaning plant.now) (kind R.Record.tells R.Record.opens R.Record.carries leg.now.half) (leg_of leg.now) self.old self.new }
+        ensures begun { Begun R.Record.tells (L.Lookup.follows lookup.new) (P.meaning plant.now) (kind R.Record.tells R.Record.opens R.Record.carries leg.now.half) (leg_of leg.now) self.old self.new }
         ensures lender { self.new.room.ghost_name ≡ self.old.room.ghost_name }
     {
         if leg.admits(plant, 0, leg.start) {
@@ -72,11 +72,11 @@ impl<'a, R: Record> Store<'a, R> {
         leg: &Leg,
     ) -> Option<Ended>
         requires ready { Ready R.Record.tells (L.Lookup.follows lookup.old) self.old }
-        requires start { leg.now.start < (meaning plant.now).settings }
+        requires start { leg.now.start < (P.meaning plant.now).settings }
         requires bound { leg.now.bound ≤ 255 }
         requires some { 1 ≤ length (room_of self.old) }
-        requires stands { Stands (meaning plant.now) (kind R.Record.tells R.Record.opens R.Record.carries leg.now.half) (leg_of leg.now) 0 [] self.old }
-        ensures ran { Ran R.Record.tells (L.Lookup.follows lookup.new) (meaning plant.now) (kind R.Record.tells R.Record.opens R.Record.carries leg.now.half) (leg_of leg.now) self.old self.new result }
+        requires stands { Stands (P.meaning plant.now) (kind R.Record.tells R.Record.opens R.Record.carries leg.now.half) (leg_of leg.now) 0 [] self.old }
+        ensures ran { Ran R.Record.tells (L.Lookup.follows lookup.new) (P.meaning plant.now) (kind R.Record.tells R.Record.opens R.Record.carries leg.now.half) (leg_of leg.now) self.old self.new result }
         ensures lender { self.new.room.ghost_name ≡ self.old.room.ghost_name }
     {
         let mut depth = 0u16;

@@ -1,4 +1,6 @@
 // Tests of measure and plan on small benches and tracks.
+#![tactic(auto)]
+
 #[cfg(test)]
 mod asks;
 #[cfg(test)]

@@ -1,4 +1,6 @@
 // Sequencers on examples, run as tests. They stand in a crate of their own, since a crate with tests is proved twice.
+#![tactic(auto)]
+
 #[cfg(test)]
 mod endings;
 #[cfg(test)]

@@ -1,5 +1,7 @@
 // Reads a book from standard input and writes its sheet to standard output, or the line of the first fault. Ends with
 // status 0 for a sheet, and with status 1 for a fault.
+#![tactic(auto)]
+
 ghost use Rattle.std.specs.Prelude.{◌≤◌, length, IfOk};
 
 use anyhow::anyhow;

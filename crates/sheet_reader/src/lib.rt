@@ -1,4 +1,6 @@
 // Reading a sheet: a file of steps bodies alone, which is what its bodies write.
+#![tactic(auto)]
+
 ghost use Rattle.std.specs.Prelude.{◌≡◌};
 ghost use Rattle.file.specs.declared.kind.Reader.TheVariants.{StepsAlone};
 ghost use Rattle.file.specs.Read.{read_fault};

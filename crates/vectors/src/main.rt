@@ -1,4 +1,6 @@
 // Holds measure and plan to vectors on standard input: each names a plant, a question and what is to be answered.
+#![tactic(auto)]
+
 mod compare;
 mod difference;
 mod plants;

@@ -1,5 +1,7 @@
 // Works operations on a valve bench, a track and a pair of the two, as a script on standard input says, and prints
 // every setting on the way.
+#![tactic(auto)]
+
 mod describe;
 mod script;
 mod shop;

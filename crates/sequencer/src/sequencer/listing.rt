@@ -12,9 +12,9 @@ impl<P: Plant> Sequencer<P> {
     // The first operation of the list is done: the setting steps by it, and the list loses it. Refused where no list is
     // in hand, then where the operation is not the first of those still to be done.
     pub fn done(&mut self, operation: u16) -> Result<(), Refusal>
-        ensures carried { Carried (meaning (under self.old)) (state_of self.old) (doing operation) (state_of self.new) result }
+        ensures carried { Carried (P.meaning (under self.old)) (state_of self.old) (doing operation) (state_of self.new) result }
         ensures same { under self.new ≡ under self.old }
-        ensures promise { KeepsOn (meaning (under self.old)) (state_of self.old) (doing operation) (state_of self.new) }
+        ensures promise { KeepsOn (P.meaning (under self.old)) (state_of self.old) (doing operation) (state_of self.new) }
     {
         self.list.advance(operation)?;
         match self.plant.below().step(self.setting, operation) {
@@ -26,9 +26,9 @@ impl<P: Plant> Sequencer<P> {
 
     // The list goes. Refused where none is in hand.
     pub fn drop_list(&mut self) -> Result<(), Refusal>
-        ensures carried { Carried (meaning (under self.old)) (state_of self.old) drop_list (state_of self.new) result }
+        ensures carried { Carried (P.meaning (under self.old)) (state_of self.old) drop_list (state_of self.new) result }
         ensures same { under self.new ≡ under self.old }
-        ensures promise { KeepsOn (meaning (under self.old)) (state_of self.old) drop_list (state_of self.new) }
+        ensures promise { KeepsOn (P.meaning (under self.old)) (state_of self.old) drop_list (state_of self.new) }
     {
         if !self.list.is_held() {
             return Err(Refusal::NoList);

@@ -19,10 +19,10 @@ impl<P: Plant> Sequencer<P> {
     // where there is no such setting, then where the bound is above 255, then where a leg needs more records, then where
     // the target is out of reach.
     pub fn plan(&mut self, target: u32, bound: u16, records: &mut [Relayed]) -> Result<u64, Refusal>
-        ensures carried { Planned (meaning (under self.old)) (state_of self.old) target bound (length records.old) (state_of self.new) result }
+        ensures carried { Planned (P.meaning (under self.old)) (state_of self.old) target bound (length records.old) (state_of self.new) result }
         ensures same { under self.new ≡ under self.old }
-        ensures promise { KeepsOn (meaning (under self.old)) (state_of self.old) (planning target bound (length records.old)) (state_of self.new) }
-        ensures records { records.new ≡ search_leaves relay_blank (tagged (meaning (under self.old)) (state_of self.old).tags) (leg (state_of self.old).setting target bound) records.old }
+        ensures promise { KeepsOn (P.meaning (under self.old)) (state_of self.old) (planning target bound (length records.old)) (state_of self.new) }
+        ensures records { records.new ≡ search_leaves relay_blank (tagged (P.meaning (under self.old)) (state_of self.old).tags) (leg (state_of self.old).setting target bound) records.old }
     {
         self.plan_with_index(target, bound, records, &mut [])
     }
@@ -36,10 +36,10 @@ impl<P: Plant> Sequencer<P> {
         records: &mut [Relayed],
         index: &mut [u32],
     ) -> Result<u64, Refusal>
-        ensures carried { Planned (meaning (under self.old)) (state_of self.old) target bound (length records.old) (state_of self.new) result }
+        ensures carried { Planned (P.meaning (under self.old)) (state_of self.old) target bound (length records.old) (state_of self.new) result }
         ensures same { under self.new ≡ under self.old }
-        ensures promise { KeepsOn (meaning (under self.old)) (state_of self.old) (planning target bound (length records.old)) (state_of self.new) }
-        ensures records { records.new ≡ search_leaves relay_blank (tagged (meaning (under self.old)) (state_of self.old).tags) (leg (state_of self.old).setting target bound) records.old }
+        ensures promise { KeepsOn (P.meaning (under self.old)) (state_of self.old) (planning target bound (length records.old)) (state_of self.new) }
+        ensures records { records.new ≡ search_leaves relay_blank (tagged (P.meaning (under self.old)) (state_of self.old).tags) (leg (state_of self.old).setting target bound) records.old }
     {
         self.list
             .fill(&self.plant, self.setting, target, bound, records, index)

@@ -17,7 +17,7 @@ impl<P: Plant> Sequencer<P> {
 
     // Whether the operation bears a tag of this sequencer. Out of range, false.
     pub fn is_tagged(&self, operation: u16) -> bool
-        ensures { result ≡ bears (meaning (under self.now)) (state_of self.now).tags operation }
+        ensures { result ≡ bears (P.meaning (under self.now)) (state_of self.now).tags operation }
     {
         self.plant.is_tagged(operation)
     }

@@ -16,7 +16,7 @@ impl<P: Plant> Sequencer<P> {
     pub fn new(plant: P) -> Sequencer<P>
         ensures fresh { state_of result ≡ fresh }
         ensures same { under result ≡ plant }
-        ensures promise { Holds (meaning plant) [] (state_of result) }
+        ensures promise { Holds (P.meaning plant) [] (state_of result) }
     {
         Sequencer {
             plant: Tagged::new(plant),
@@ -28,9 +28,9 @@ impl<P: Plant> Sequencer<P> {
     // The plant was moved by hand: the setting is the given one, and the list goes. Refused where there is no such
     // setting.
     pub fn hand_move(&mut self, setting: u32) -> Result<(), Refusal>
-        ensures carried { Carried (meaning (under self.old)) (state_of self.old) (hand_move setting) (state_of self.new) result }
+        ensures carried { Carried (P.meaning (under self.old)) (state_of self.old) (hand_move setting) (state_of self.new) result }
         ensures same { under self.new ≡ under self.old }
-        ensures promise { KeepsOn (meaning (under self.old)) (state_of self.old) (hand_move setting) (state_of self.new) }
+        ensures promise { KeepsOn (P.meaning (under self.old)) (state_of self.old) (hand_move setting) (state_of self.new) }
     {
         if setting >= self.plant.below().settings() {
             return Err(Refusal::NoSuchSetting);

@@ -12,9 +12,9 @@ impl<P: Plant> Sequencer<P> {
     // Tags the operation and its reverse; the list goes if either is still to be done. Refused where there is no such
     // operation, then where it is tagged already.
     pub fn tag(&mut self, operation: u16) -> Result<(), Refusal>
-        ensures carried { Carried (meaning (under self.old)) (state_of self.old) (tagging operation) (state_of self.new) result }
+        ensures carried { Carried (P.meaning (under self.old)) (state_of self.old) (tagging operation) (state_of self.new) result }
         ensures same { under self.new ≡ under self.old }
-        ensures promise { KeepsOn (meaning (under self.old)) (state_of self.old) (tagging operation) (state_of self.new) }
+        ensures promise { KeepsOn (P.meaning (under self.old)) (state_of self.old) (tagging operation) (state_of self.new) }
     {
         self.plant.tag(operation)?;
         self.list.spare(self.plant.below(), operation);
@@ -24,9 +24,9 @@ impl<P: Plant> Sequencer<P> {
     // Frees the operation and its reverse; the list goes. Refused where there is no such operation, then where it is not
     // tagged.
     pub fn untag(&mut self, operation: u16) -> Result<(), Refusal>
-        ensures carried { Carried (meaning (under self.old)) (state_of self.old) (untagging operation) (state_of self.new) result }
+        ensures carried { Carried (P.meaning (under self.old)) (state_of self.old) (untagging operation) (state_of self.new) result }
         ensures same { under self.new ≡ under self.old }
-        ensures promise { KeepsOn (meaning (under self.old)) (state_of self.old) (untagging operation) (state_of self.new) }
+        ensures promise { KeepsOn (P.meaning (under self.old)) (state_of self.old) (untagging operation) (state_of self.new) }
     {
         self.plant.untag(operation)?;
         self.list.forget();

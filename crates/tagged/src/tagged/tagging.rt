@@ -28,7 +28,7 @@ impl<P: Plant> Tagged<P> {
 
     // Whether the operation or its reverse bears a tag. Out of range, false.
     pub fn is_tagged(&self, operation: u16) -> bool
-        ensures { result ≡ bears (meaning (below_of self.now)) (tags_of self.now) operation }
+        ensures { result ≡ bears (P.meaning (below_of self.now)) (tags_of self.now) operation }
     {
         if operation >= self.below.operations() {
             return false;
@@ -39,7 +39,7 @@ impl<P: Plant> Tagged<P> {
 
     // Tags the operation and its reverse. Refused where there is no such operation, then where it is tagged already.
     pub fn tag(&mut self, operation: u16) -> Result<(), Refusal>
-        ensures tagged { Tags (meaning (below_of self.old)) (tags_of self.old) operation (tags_of self.new) result }
+        ensures tagged { Tags (P.meaning (below_of self.old)) (tags_of self.old) operation (tags_of self.new) result }
         ensures same { below_of self.new ≡ below_of self.old }
     {
         if operation >= self.below.operations() {
@@ -54,7 +54,7 @@ impl<P: Plant> Tagged<P> {
 
     // Frees the operation and its reverse. Refused where there is no such operation, then where it is not tagged.
     pub fn untag(&mut self, operation: u16) -> Result<(), Refusal>
-        ensures freed { Untags (meaning (below_of self.old)) (tags_of self.old) operation (tags_of self.new) result }
+        ensures freed { Untags (P.meaning (below_of self.old)) (tags_of self.old) operation (tags_of self.new) result }
         ensures same { below_of self.new ≡ below_of self.old }
     {
         if operation >= self.below.operations() {
@@ -69,8 +69,8 @@ impl<P: Plant> Tagged<P> {
 
     // Tags the operation and its reverse, or frees both.
     fn put(&mut self, operation: u16, on: bool)
-        requires { operation < (meaning (below_of self.old)).operations }
-        ensures covered { Covered (meaning (below_of self.old)) (tags_of self.old) operation on (tags_of self.new) }
+        requires { operation < (P.meaning (below_of self.old)).operations }
+        ensures covered { Covered (P.meaning (below_of self.old)) (tags_of self.old) operation on (tags_of self.new) }
         ensures same { below_of self.new ≡ below_of self.old }
     {
         let reverse = self.below.reverse(operation);

@@ -24,8 +24,8 @@ impl Table {
         records: &mut [Relayed],
         index: &mut [u32],
     ) -> Result<u64, Refusal>
-        ensures filled { Fills (answered (meaning plant.now) (leg start target bound) (length records.old)) target (work_in self.old) (work_in self.new) result }
-        ensures records { records.new ≡ search_leaves relay_blank (meaning plant.now) (leg start target bound) records.old }
+        ensures filled { Fills (answered (P.meaning plant.now) (leg start target bound) (length records.old)) target (work_in self.old) (work_in self.new) result }
+        ensures records { records.new ≡ search_leaves relay_blank (P.meaning plant.now) (leg start target bound) records.old }
     {
         let planned = plan_with_index(
             plant,

@@ -56,7 +56,7 @@ impl Table {
 
     // The list goes if the operation or its reverse is still to be done.
     pub(crate) fn spare<P: Plant>(&mut self, plant: &P, operation: u16)
-        ensures { work_in self.new ≡ spared (meaning plant.now) operation (work_in self.old) }
+        ensures { work_in self.new ≡ spared (P.meaning plant.now) operation (work_in self.old) }
     {
         if touched(
             plant,
@@ -99,7 +99,7 @@ impl Table {
 
 // Whether the operation or its reverse stands in the list.
 fn touched<P: Plant>(plant: &P, list: &[u16], operation: u16) -> bool
-    ensures { result ≡ touches (meaning plant.now) operation list.now }
+    ensures { result ≡ touches (P.meaning plant.now) operation list.now }
 {
     let reverse = plant.reverse(operation);
     for other in list {
