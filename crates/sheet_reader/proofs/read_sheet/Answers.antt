@@ -14,5 +14,5 @@ returns c = record {
   reader = c.read.ensures.reader;
   back = subst (λ (o : Option FileFault). ReadsBack c.args.bytes.now o) (sym c.read.ensures.fault) (reads_back c.args.bytes.now);
   forth = subst (λ (o : Option FileFault). WritesBack c.args.bytes.now o) (sym c.read.ensures.fault)
-      (writes_back c.args.bytes.now (bytes_from c.args.bytes.now (λ i. omega (arith, c.type-inv.bytes i))));
+      (writes_back c.args.bytes.now (bytes_from c.args.bytes.now (λ i. omega (arith, c.type_inv.bytes i))));
 }

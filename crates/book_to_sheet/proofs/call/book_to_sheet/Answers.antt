@@ -17,14 +17,14 @@ returns-in-Some c = record {
   plans = tt;
 }
 
-pub returns-in-Some-write-sheet : goal.returns-in-Some-write-sheet
-returns-in-Some-write-sheet c =
-    let written = subst (λ (b : List ℕ). SheetWritten b c.args.sheet.now c.write-sheet.new.buffer (Some c.in-Some-write-sheet.length)) c.read-file.ensures.bytes c.in-Some-write-sheet.ensures in
+pub returns-in-Some-write_sheet : goal.returns-in-Some-write_sheet
+returns-in-Some-write_sheet c =
+    let written = subst (λ (b : List ℕ). SheetWritten b c.args.sheet.now c.write_sheet.new.buffer (Some c.in-Some-write_sheet.length)) c.read-file.ensures.bytes c.in-Some-write_sheet.ensures in
     record {
       answer = search rules;
       bytes = search rules;
-      sixteen = written_short c.args.book.now (sym c.read-file.ensures.fault ∙ file_none _ _ c.in-None.ensures) c.in-Some-write-sheet.length written.0 written.3;
+      sixteen = written_short c.args.book.now (sym c.read-file.ensures.fault ∙ file_none _ _ c.in-None.ensures) c.in-Some-write_sheet.length written.0 written.3;
       plans =
-          plans_back c.args.book.now (sym c.read-file.ensures.fault ∙ file_none _ _ c.in-None.ensures) c.write-sheet.new.buffer (drop c.in-Some-write-sheet.length c.args.sheet.now) c.in-Some-write-sheet.length
+          plans_back c.args.book.now (sym c.read-file.ensures.fault ∙ file_none _ _ c.in-None.ensures) c.write_sheet.new.buffer (drop c.in-Some-write_sheet.length c.args.sheet.now) c.in-Some-write_sheet.length
           written.0 written.1 written.3;
     }

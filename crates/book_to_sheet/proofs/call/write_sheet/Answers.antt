@@ -10,23 +10,23 @@ use Rattle.book_to_sheet.proofs.call.write_sheet.Goals as goal
 pub returns-in-default : goal.returns-in-default
 returns-in-default c =
     let book = file_bytes c.args.file.now in
-    let jobs = c.count-jobs-jobs.ensures.jobs ∙ sym (bodies_for_jobs book c.requires.faultless.read) in
-    head_short (book_steps book) c.count-jobs-jobs.result (length c.args.buffer.now) c.in-default.field-0 jobs c.count-jobs-jobs.ensures.few c.in-default.ensures.refusal
+    let jobs = c.count_jobs-jobs.ensures.jobs ∙ sym (bodies_for_jobs book c.requires.faultless.read) in
+    head_short (book_steps book) c.count_jobs-jobs.result (length c.args.buffer.now) c.in-default.field-0 jobs c.count_jobs-jobs.ensures.few c.in-default.ensures.refusal
 
 pub unreachable-requires : goal.unreachable-requires
 unreachable-requires c =
     let book = file_bytes c.args.file.now in
     let opened = ap (λ s. s.declared) c.in-Ok.ensures.sheet in
-    let filled = c.if-not-fill.ensures (drop (2 + 4 * c.count-jobs-jobs.result) c.args.buffer.now) c.in-Ok.ensures.written (opened ∙ c.count-jobs-jobs.ensures.jobs) in
-    let jobs = c.count-jobs-jobs.ensures.jobs ∙ sym (bodies_for_jobs book c.requires.faultless.read) in
+    let filled = c.if-not-fill.ensures (drop (2 + 4 * c.count_jobs-jobs.result) c.args.buffer.now) c.in-Ok.ensures.written (opened ∙ c.count_jobs-jobs.ensures.jobs) in
+    let jobs = c.count_jobs-jobs.ensures.jobs ∙ sym (bodies_for_jobs book c.requires.faultless.read) in
     all_there (state c.fill.new.sheet) c.fill.new.buffer (book_steps book) _ c.in-Err.field-0.refusal filled.1 (filled.0 ∙ (opened ∙ jobs)) c.in-Err.ensures.cases.0
 
 pub returns : goal.returns
 returns c =
     let book = file_bytes c.args.file.now in
     let opened = ap (λ s. s.declared) c.in-Ok.ensures.sheet in
-    let filled = c.if-not-fill.ensures (drop (2 + 4 * c.count-jobs-jobs.result) c.args.buffer.now) c.in-Ok.ensures.written (opened ∙ c.count-jobs-jobs.ensures.jobs) in
-    let jobs = c.count-jobs-jobs.ensures.jobs ∙ sym (bodies_for_jobs book c.requires.faultless.read) in
+    let filled = c.if-not-fill.ensures (drop (2 + 4 * c.count_jobs-jobs.result) c.args.buffer.now) c.in-Ok.ensures.written (opened ∙ c.count_jobs-jobs.ensures.jobs) in
+    let jobs = c.count_jobs-jobs.ensures.jobs ∙ sym (bodies_for_jobs book c.requires.faultless.read) in
     let s = state c.fill.new.sheet in
     let n = c.len.result in
     let before = c.args.buffer.now in
@@ -34,8 +34,8 @@ returns c =
     let declared : s.declared ≡ length (book_steps book) = filled.0 ∙ (opened ∙ jobs) in
     let end : n ≡ s.end = c.len.ensures ∙ c.in-Ok-close.ensures.cases.1 in
     let kept : length after ≡ length before = c.fill.auto.buffer ∙ c.open.auto.buffer in (
-      closed_length s before after (book_steps book) c.count-jobs-jobs.result n filled.1 declared jobs end,
-      closed_bytes s before after (book_steps book) c.count-jobs-jobs.result n filled.1 declared jobs end,
-      closed_fits s before after (book_steps book) c.count-jobs-jobs.result n filled.1 declared jobs end kept,
+      closed_length s before after (book_steps book) c.count_jobs-jobs.result n filled.1 declared jobs end,
+      closed_bytes s before after (book_steps book) c.count_jobs-jobs.result n filled.1 declared jobs end,
+      closed_fits s before after (book_steps book) c.count_jobs-jobs.result n filled.1 declared jobs end kept,
       filled.1.sound,
     )

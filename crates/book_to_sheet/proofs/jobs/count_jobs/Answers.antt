@@ -12,10 +12,10 @@ use Rattle.book_to_sheet.proofs.jobs.count_jobs.Goals as goal
 pub loop-number-init : goal.loop-number-init
 loop-number-init c = (refl, omega arith)
 
-pub overflow-add-count : goal.overflow-add-count
-overflow-add-count c =
+pub overflow_add-count : goal.overflow_add-count
+overflow_add-count c =
     let one = jobs_at_few (slice_get (parts_of c.args.file.now) c.loop-number.number) in
-    omega (arith, one, c.loop-number.invariant.1, c.count-at-count.ensures)
+    omega (arith, one, c.loop-number.invariant.1, c.count_at-count.ensures)
 
 pub loop-number-preserved : goal.loop-number-preserved
 loop-number-preserved c =
@@ -24,7 +24,7 @@ loop-number-preserved c =
     let all = all_entries c.args.file.now c.requires c.entries-number-end.result c.entries-number-end.ensures in
     let one = jobs_at_few (slice_get es i) in
     let more = jobs_more es i (omega (arith, all, c.loop-number-test.true)) in
-    (omega (arith, more, c.loop-number.invariant.0, c.count-at-count.ensures), omega (arith, one, c.loop-number.invariant.1, c.count-at-count.ensures))
+    (omega (arith, more, c.loop-number.invariant.0, c.count_at-count.ensures), omega (arith, one, c.loop-number.invariant.1, c.count_at-count.ensures))
 
 pub returns : goal.returns
 returns c =

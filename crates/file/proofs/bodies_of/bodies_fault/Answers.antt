@@ -6,8 +6,8 @@ use Rattle.file.proofs.RowByRow.{rows_there}
 use Rattle.file.proofs.PartByPart.{body_within, bodies_behind, part_wrong, part_right}
 use Rattle.file.proofs.bodies_of.bodies_fault.Goals as goal
 
-pub slice-bounds-body-fault-end : goal.slice-bounds-body-fault-end
-slice-bounds-body-fault-end c =
+pub slice_bounds-body_fault-end : goal.slice_bounds-body_fault-end
+slice_bounds-body_fault-end c =
     let n : c.word.result ≡ row_length c.loop-number.rest.now = omega (arith, field_2 2 c.loop-number.rest.now) in
     let h : c.loop-number.place + c.word.result ≤ length c.args.file.now =
     body_within c.args.entries c.loop-number.number c.word.result c.loop-number.place c.loop-number.rest.now _ c.loop-number-test.true n c.loop-number.invariant.2 in

@@ -17,8 +17,8 @@ loop-before-preserved c =
       known_behind c.args.entries c.loop-before.-before c.loop-before.rest.now (omega arith) c.loop-before.invariant.3,
     )
 
-pub slice-bounds-entry-of-kind-end : goal.slice-bounds-entry-of-kind-end
-slice-bounds-entry-of-kind-end c =
+pub slice_bounds-entry_of_kind-end : goal.slice_bounds-entry_of_kind-end
+slice_bounds-entry_of_kind-end c =
     let n : c.word-2.result ≡ row_length c.loop-before.rest.now = omega (arith, field_2 2 c.loop-before.rest.now) in
     let h : c.loop-before.place + c.word-2.result ≤ length c.args.file.now =
     body_within c.args.entries c.loop-before.-before c.word-2.result c.loop-before.place c.loop-before.rest.now _ (omega arith) n c.loop-before.invariant.2 in
@@ -27,6 +27,6 @@ slice-bounds-entry-of-kind-end c =
 pub returns : goal.returns
 returns c =
     let n : c.word-2.result ≡ row_length c.loop-before.rest.now = omega (arith, field_2 2 c.loop-before.rest.now) in
-    c.entry-of-kind.ensures
+    c.entry_of_kind.ensures
     ∙ entry_here c.args.entries c.loop-before.-before c.args.number c.loop-before.place c.word-2.result c.loop-before.rest.now c.args.file.now _
     c.requires.within c.loop-before-test.false (omega arith) n c.loop-before.invariant.3 c.loop-before.invariant.0 ((c.loop-before.place + c.word-2.result) - c.loop-before.place) (omega arith)

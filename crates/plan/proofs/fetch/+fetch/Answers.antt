@@ -36,8 +36,8 @@ returns-then-count-eq1 g t c =
     let records = length c.args.records.now in
     fetched_one m lawful n s goal records c.in-Some.operation c.args.list.now c.if-count-eq1.true c.requires.long c.in-Some.ensures
 
-pub returns-in-default-search-leg-with-index : goal.returns-in-default-search-leg-with-index
-returns-in-default-search-leg-with-index g t c =
+pub returns-in-default-search_leg_with_index : goal.returns-in-default-search_leg_with_index
+returns-in-default-search_leg_with_index g t c =
     let m = g.P.Plant.meaning c.args.plant.now in
     let lawful = g.met.P.Plant.lawful c.args.plant.now in
     let n = c.args.count in
@@ -45,7 +45,7 @@ returns-in-default-search-leg-with-index g t c =
     let goal = c.args.target in
     let records = length c.args.records.now in
     let two : 2 ≤ n = omega (arith, c.if-count-eq0.false, c.if-count-eq1.false) in
-    leg_overfull m lawful n s goal records two c.requires.short c.requires.start c.requires.target c.requires.distance c.in-default-search-leg-with-index.field-0 c.in-default-search-leg-with-index.ensures.answer
+    leg_overfull m lawful n s goal records two c.requires.short c.requires.start c.requires.target c.requires.distance c.in-default-search_leg_with_index.field-0 c.in-default-search_leg_with_index.ensures.answer
 
 pub fetch-requires : goal.fetch-requires
 fetch-requires g t c κs within =
@@ -89,7 +89,7 @@ returns-in-default-fetch g t c =
     let found = c.in-Ok.ensures.answer.0 in
     let half = relay_halfway m lawful n s goal records two c.requires.short c.requires.start c.requires.target c.requires.distance a found c.in-Ok.reached.record c.in-Ok.ensures.answer.1.0 c.in-Ok.ensures.answer.1.1 in
     let relay = c.in-Ok.reached.record.relay in
-    first_overfull m lawful n s goal records two c.requires.short c.requires.start c.requires.target c.requires.distance a found relay c.fetch.new.list half (subst (λ k. Fetched m (n / 2) s relay k c.fetch.new.list None) c.search-leg-with-index.auto.records c.in-default-fetch.ensures)
+    first_overfull m lawful n s goal records two c.requires.short c.requires.start c.requires.target c.requires.distance a found relay c.fetch.new.list half (subst (λ k. Fetched m (n / 2) s relay k c.fetch.new.list None) c.search_leg_with_index.auto.records c.in-default-fetch.ensures)
 
 pub fetch-requires-2 : goal.fetch-requires-2
 fetch-requires-2 g t c κs within =
@@ -135,11 +135,11 @@ returns-in-default-fetch-2 g t c =
     let found = c.in-Ok.ensures.answer.0 in
     let half = relay_halfway m lawful n s goal records two c.requires.short c.requires.start c.requires.target c.requires.distance a found c.in-Ok.reached.record c.in-Ok.ensures.answer.1.0 c.in-Ok.ensures.answer.1.1 in
     let relay = c.in-Ok.reached.record.relay in
-    let same = c.fetch.auto.records ∙ c.search-leg-with-index.auto.records in
+    let same = c.fetch.auto.records ∙ c.search_leg_with_index.auto.records in
     second_overfull m lawful n s goal records two c.requires.short c.requires.start c.requires.target c.requires.distance a found relay c.fetch-2.new.list half (subst (λ k. Fetched m (n - n / 2) relay goal k c.fetch-2.new.list None) same c.in-default-fetch-2.ensures)
 
-pub overflow-add-result : goal.overflow-add-result
-overflow-add-result g t c =
+pub overflow_add-result : goal.overflow_add-result
+overflow_add-result g t c =
     let m = g.P.Plant.meaning c.args.plant.now in
     let lawful = g.met.P.Plant.lawful c.args.plant.now in
     let n = c.args.count in
@@ -154,8 +154,8 @@ overflow-add-result g t c =
     let few = leg_few m lawful n s goal records two c.requires.short c.requires.start c.requires.target c.requires.distance a found in
     omega (arith, few, c.in-Some-fetch.ensures.3, c.requires.short)
 
-pub overflow-add-result-2 : goal.overflow-add-result-2
-overflow-add-result-2 g t c =
+pub overflow_add-result-2 : goal.overflow_add-result-2
+overflow_add-result-2 g t c =
     let m = g.P.Plant.meaning c.args.plant.now in
     let lawful = g.met.P.Plant.lawful c.args.plant.now in
     let n = c.args.count in
@@ -183,8 +183,8 @@ returns g t c =
     let found = c.in-Ok.ensures.answer.0 in
     let half = relay_halfway m lawful n s goal records two c.requires.short c.requires.start c.requires.target c.requires.distance a found c.in-Ok.reached.record c.in-Ok.ensures.answer.1.0 c.in-Ok.ensures.answer.1.1 in
     let relay = c.in-Ok.reached.record.relay in
-    let same = c.fetch.auto.records ∙ c.search-leg-with-index.auto.records in
-    let first = subst (λ k. Fetched m (n / 2) s relay k c.fetch.new.list (Some c.in-Some-fetch.first)) c.search-leg-with-index.auto.records c.in-Some-fetch.ensures in
+    let same = c.fetch.auto.records ∙ c.search_leg_with_index.auto.records in
+    let first = subst (λ k. Fetched m (n / 2) s relay k c.fetch.new.list (Some c.in-Some-fetch.first)) c.search_leg_with_index.auto.records c.in-Some-fetch.ensures in
     let second = subst (λ k. Fetched m (n - n / 2) relay goal k c.fetch-2.new.list (Some c.in-Some-fetch-2.second)) same c.in-Some-fetch-2.ensures in
     let front : length c.fetch.new.list ≡ n / 2 = c.fetch.auto.list ∙ simp length-take (omega (arith, c.requires.long)) in
     let low : n / 2 ≤ n = omega arith in

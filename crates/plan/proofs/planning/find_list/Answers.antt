@@ -10,8 +10,8 @@ use Rattle.plan.specs.Fetched.{Fetched}
 use Rattle.plan.proofs.Answering.{planned_refused, planned_found, planned_overfull, searched, start_in, target_in, length_fits, least, first_few, list_in_front, written}
 use Rattle.plan.proofs.planning.find_list.Goals as goal
 
-pub slice-bounds-fetch-end : goal.slice-bounds-fetch-end
-slice-bounds-fetch-end g c =
+pub slice_bounds-fetch-end : goal.slice_bounds-fetch-end
+slice_bounds-fetch-end g c =
     let m = g.P.Plant.meaning c.args.plant.now in
     let lawful = g.met.P.Plant.lawful c.args.plant.now in
     let l = leg c.args.start c.args.target c.args.bound in
@@ -40,8 +40,8 @@ fetch-requires g c =
       distance = least m lawful l records a found;
     }
 
-pub overflow-add-result : goal.overflow-add-result
-overflow-add-result g c =
+pub overflow_add-result : goal.overflow_add-result
+overflow_add-result g c =
     let m = g.P.Plant.meaning c.args.plant.now in
     let lawful = g.met.P.Plant.lawful c.args.plant.now in
     let l = leg c.args.start c.args.target c.args.bound in
@@ -62,7 +62,7 @@ returns-in-Some g c =
     let fits = length_fits m lawful l records a found in
     let long : length c.args.place.now ≡ 255 = ap length c.requires in
     let listed : length c.fetch.new.list ≡ n = c.fetch.auto.list ∙ simp length-take (omega arith) in
-    let fetched = subst (λ k. Fetched m n c.args.start c.args.target k c.fetch.new.list (Some c.in-Some.fetched)) c.search-leg-with-index.auto.records c.in-Some.ensures in
+    let fetched = subst (λ k. Fetched m n c.args.start c.args.target k c.fetch.new.list (Some c.in-Some.fetched)) c.search_leg_with_index.auto.records c.in-Some.ensures in
     record {
       found = (
         planned_found m lawful l records a found c.fetch.new.list c.in-Some.fetched fetched
@@ -80,7 +80,7 @@ returns-in-None g c =
     let records = length c.args.records.now in
     let a : Counted ℕ = record { found = c.in-Ok.reached.length; count = c.in-Ok.reached.expanded } in
     let found = c.in-Ok.ensures.answer.0 in
-    let fetched = subst (λ k. Fetched m c.in-Ok.reached.length c.args.start c.args.target k c.fetch.new.list None) c.search-leg-with-index.auto.records c.in-None.ensures in
+    let fetched = subst (λ k. Fetched m c.in-Ok.reached.length c.args.start c.args.target k c.fetch.new.list None) c.search_leg_with_index.auto.records c.in-None.ensures in
     record { found = planned_overfull m lawful l records a found c.fetch.new.list fetched; kept = λ e. searched m lawful l records a found e }
 
 pub returns-in-Err : goal.returns-in-Err
@@ -91,5 +91,5 @@ returns-in-Err g c =
     let records = length c.args.records.now in
     record {
       found = planned_refused m lawful l records c.in-Err.refusal c.in-Err.ensures.answer;
-      kept = λ e. c.search-leg-with-index.ensures.records ∙ leg_leaves_outside relay_blank m l c.args.records.now e;
+      kept = λ e. c.search_leg_with_index.ensures.records ∙ leg_leaves_outside relay_blank m l c.args.records.now e;
     }

@@ -18,7 +18,7 @@ returns-in-Ok g c =
     record {
       answer = found;
       records =
-          c.clear-all.ensures ∙ ap (λ n. replicate n relay_blank) c.find-list.auto.records
+          c.clear_all.ensures ∙ ap (λ n. replicate n relay_blank) c.find_list.auto.records
           ∙ left_found relay_blank m l (ltb (length rs) (most_need m (plan_legs m l))) (plan_list m l) (count m (plan_legs m l)) _ rs found.0;
       laws = plans_lawful m lawful;
     }
@@ -33,7 +33,7 @@ returns-in-Err g c =
     record {
       answer = (refused, refl);
       records =
-          c.clear-after.ensures
-          ∙ left_refused relay_blank m l (ltb (length rs) (most_need m (plan_legs m l))) (plan_list m l) (count m (plan_legs m l)) c.in-Err.refusal rs c.find-list.new.records c.find-list.auto.records c.find-list.ensures.kept refused;
+          c.clear_after.ensures
+          ∙ left_refused relay_blank m l (ltb (length rs) (most_need m (plan_legs m l))) (plan_list m l) (count m (plan_legs m l)) c.in-Err.refusal rs c.find_list.new.records c.find_list.auto.records c.find_list.ensures.kept refused;
       laws = plans_lawful m lawful;
     }

@@ -10,4 +10,4 @@ returns-then-number-links c = link_past (link_count c.args.body.now) c.args.numb
 pub returns : goal.returns
 returns c =
     link_there c.args.body.now (link_count c.args.body.now) c.args.number _ _ _ _ _ _ _ (omega arith) refl
-    c.byte-at.ensures c.byte-at-2.ensures c.byte-at-3.ensures c.byte-at-4.ensures c.word.ensures c.word-2.ensures
+    c.byte_at.ensures c.byte_at-2.ensures c.byte_at-3.ensures c.byte_at-4.ensures c.word.ensures c.word-2.ensures

@@ -6,10 +6,10 @@ pub returns-in-Ok : goal.returns-in-Ok
 returns-in-Ok c =
     let bs = c.args.body.now in
     track_of_parts bs _ _ c.in-Ok.track c.in-None.ensures c.stations.ensures
-    (links_held bs c.links-count.result c.held-links-held.result c.in-None.ensures c.links-count.ensures c.held-links-held.ensures) c.in-Ok.ensures
+    (links_held bs c.links-count.result c.held_links-held.result c.in-None.ensures c.links-count.ensures c.held_links-held.ensures) c.in-Ok.ensures
 
 pub returns-in-Err : goal.returns-in-Err
 returns-in-Err c =
     let bs = c.args.body.now in
     absurd (track_parts_faultless bs _ _ c.in-Err.field-0 c.in-None.ensures c.stations.ensures
-    (links_held bs c.links-count.result c.held-links-held.result c.in-None.ensures c.links-count.ensures c.held-links-held.ensures) c.in-Err.ensures)
+    (links_held bs c.links-count.result c.held_links-held.result c.in-None.ensures c.links-count.ensures c.held_links-held.ensures) c.in-Err.ensures)

@@ -39,8 +39,8 @@ returns-in-Some-hit g c =
         (subst (λ n. In c.in-Some-hit.record (layer m k l n)) (sym ran.0) at.0, at.1),
       );
       records =
-          c.blank-front.ensures ∙ ap (λ n. replicate n g.R.Record.blank ++ drop n c.walk-by.new.records) used
-          ∙ zeroed_front g.R.Record.blank (goal m l) c.args.records.now c.walk-by.new.records ran.3 ran.4;
+          c.blank_front.ensures ∙ ap (λ n. replicate n g.R.Record.blank ++ drop n c.walk_by.new.records) used
+          ∙ zeroed_front g.R.Record.blank (goal m l) c.args.records.now c.walk_by.new.records ran.3 ran.4;
     }
 
 pub returns-in-None : goal.returns-in-None
@@ -50,5 +50,5 @@ returns-in-None g c =
     let few = c.in-None.ensures in
     record {
       answer = few;
-      records = c.blank-front-in-None.ensures ∙ zeroed_all g.R.Record.blank (goal m l) c.args.records.now c.walk-by.new.records (omega (arith, few)) c.walk-by.auto.records;
+      records = c.blank_front-in-None.ensures ∙ zeroed_all g.R.Record.blank (goal m l) c.args.records.now c.walk_by.new.records (omega (arith, few)) c.walk_by.auto.records;
     }

@@ -16,7 +16,7 @@ returns g c =
     let long : length rest ≡ count - gone = length-drop gone (take (count - 0) room) ∙ omega (arith, length-take (count - 0) room, c.requires.count, c.requires.gone) in
     record {
       front =
-          ap (λ xs. take (count - gone) (xs ++ post)) c.rotate-left.ensures.after
+          ap (λ xs. take (count - gone) (xs ++ post)) c.rotate_left.ensures.after
           ∙ ap (take (count - gone)) (append_assoc rest (take gone (take (count - 0) room)) post)
           ∙ take_at rest (take gone (take (count - 0) room) ++ post) (count - gone) long
           ∙ ap (λ n. drop gone (take n room)) whole;

@@ -4,8 +4,8 @@ use lib.ListN.{length-map}
 use Rattle.search.proofs.Blanks.{read_there}
 use Rattle.search.proofs.one_leg.first_record.Goals as goal
 
-pub offset-bounds-records-place : goal.offset-bounds-records-place
-offset-bounds-records-place g c = let h = c.in-Some.ensures.0 in omega (arith, h, length-map c.args.records.now g.R.Record.tells)
+pub offset_bounds-records-place : goal.offset_bounds-records-place
+offset_bounds-records-place g c = let h = c.in-Some.ensures.0 in omega (arith, h, length-map c.args.records.now g.R.Record.tells)
 
 pub bounds-records-place : goal.bounds-records-place
 bounds-records-place g c = let h = c.in-Some.ensures.0 in omega (arith, h, length-map c.args.records.now g.R.Record.tells)

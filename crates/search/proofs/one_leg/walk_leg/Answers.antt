@@ -32,7 +32,7 @@ returns-in-Some g c =
         needed,
         omega (arith, needed, w.used_fits, begun.long),
         same_behind _ (room_of c.run-end.new.self) c.args.records.now (goal m l) (search rules) (behind ∙ from_start),
-        hit_at_end m lawful k t l c.in-Some.ended.depth [] c.run-end.new.self c.record-of.result w.stands e c.record-of.ensures,
+        hit_at_end m lawful k t l c.in-Some.ended.depth [] c.run-end.new.self c.record_of.result w.stands e c.record_of.ensures,
       );
-      cleared = c.tell-cleared.ensures;
+      cleared = c.tell_cleared.ensures;
     }

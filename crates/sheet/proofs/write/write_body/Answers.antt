@@ -7,4 +7,4 @@ use Rattle.sheet.proofs.write.write_body.Goals as goal
 pub returns : goal.returns
 returns c =
     body_written c.args.part.now _ _ c.args.operations.now _ _ _ c.requires refl (length_words c.args.operations.now)
-    c.write-number.ensures c.write-operations.ensures
+    c.write_number.ensures c.write_operations.ensures

@@ -3,4 +3,4 @@ use Rattle.sheet.proofs.Places.{row_written}
 use Rattle.sheet.proofs.write.write_row.Goals as goal
 
 pub returns : goal.returns
-returns c = row_written c.args.part.now _ _ _ c.requires c.write-number.ensures
+returns c = row_written c.args.part.now _ _ _ c.requires c.write_number.ensures

@@ -7,10 +7,10 @@ use Rattle.valves.proofs.check.data_fault.Goals as goal
 pub returns-in-Some : goal.returns-in-Some
 returns-in-Some c =
     sym (after_counts c.args.positions.now c.args.interlocks.now c.if-valves-lt1.false c.if-valves-gt-VALVES.false c.if-interlocks-gt-INTERLOCKS.false
-    ∙ ap (λ x. either_fault x (interlocks_fault c.args.positions.now c.args.interlocks.now 0)) (sym c.first-positions-fault.ensures ∙ c.in-Some.is))
+    ∙ ap (λ x. either_fault x (interlocks_fault c.args.positions.now c.args.interlocks.now 0)) (sym c.first_positions_fault.ensures ∙ c.in-Some.is))
 
 pub returns-in-None : goal.returns-in-None
 returns-in-None c =
-    c.first-interlocks-fault.ensures
+    c.first_interlocks_fault.ensures
     ∙ sym (after_counts c.args.positions.now c.args.interlocks.now c.if-valves-lt1.false c.if-valves-gt-VALVES.false c.if-interlocks-gt-INTERLOCKS.false
-    ∙ ap (λ x. either_fault x (interlocks_fault c.args.positions.now c.args.interlocks.now 0)) (sym c.first-positions-fault.ensures ∙ c.in-None.is))
+    ∙ ap (λ x. either_fault x (interlocks_fault c.args.positions.now c.args.interlocks.now 0)) (sym c.first_positions_fault.ensures ∙ c.in-None.is))

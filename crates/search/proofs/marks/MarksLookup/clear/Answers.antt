@@ -10,4 +10,4 @@ returns g c =
     λ follows.
     let tells = g.R.Record.tells in
     let rs = c.args.records.now in
-    subst (λ ss. Follows c.take-back.new.self ss) (drop_all (length rs) (map tells rs) (omega (arith, length-map rs tells))) (c.take-back.ensures follows)
+    subst (λ ss. Follows c.take_back.new.self ss) (drop_all (length rs) (map tells rs) (omega (arith, length-map rs tells))) (c.take_back.ensures follows)

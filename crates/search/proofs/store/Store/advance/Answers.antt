@@ -9,22 +9,22 @@ returns g c =
     let s = c.args.self.now in
     let tells = g.R.Record.tells in
     let fewer : s.present + s.next + 0 ≡ s.before + s.present + s.next - s.before = omega arith in
-    let stays : take (s.present + s.next + 0) c.move-down.new.room ≡ drop s.before (standing s) = ap (λ n. take n c.move-down.new.room) fewer ∙ c.move-down.ensures.front in
-    let long = c.move-down.auto.room in
+    let stays : take (s.present + s.next + 0) c.move_down.new.room ≡ drop s.before (standing s) = ap (λ n. take n c.move_down.new.room) fewer ∙ c.move_down.ensures.front in
+    let long = c.move_down.auto.room in
     record {
       advanced =
           record {
             ready =
                 record {
                   within = omega (arith, long, c.requires.within);
-                  followed = subst (λ xs. g.L.Lookup.follows c.tell-leaving.new.lookup xs) (drop-map tells s.before (standing s) ∙ ap (map tells) (sym stays)) c.tell-leaving.ensures;
+                  followed = subst (λ xs. g.L.Lookup.follows c.tell_leaving.new.lookup xs) (drop-map tells s.before (standing s) ∙ ap (map tells) (sym stays)) c.tell_leaving.ensures;
                 };
             long = long;
             befores = refl;
             presents = refl;
             nexts = refl;
             left = stays;
-            behind = c.move-down.ensures.behind;
+            behind = c.move_down.ensures.behind;
           };
       lender = refl;
     }

@@ -14,8 +14,8 @@ pub loop-place-init : goal.loop-place-init
 loop-place-init g c =
     (unchanged g.R.Record.tells (g.L.Lookup.follows c.args.lookup.now) c.args.self.now c.requires.ready, c.requires.stands, refl)
 
-pub expand-record-requires : goal.expand-record-requires
-expand-record-requires g c =
+pub expand_record-requires : goal.expand_record-requires
+expand_record-requires g c =
     record {
       ready = c.loop-place.invariant.0.ready;
       place = omega (arith, c.loop-place-test.true, c.loop-place.invariant.0.presents);
@@ -23,22 +23,22 @@ expand-record-requires g c =
       stands = c.loop-place.invariant.1;
     }
 
-pub returns-then-not-expand-record : goal.returns-then-not-expand-record
-returns-then-not-expand-record g c =
+pub returns-then-not-expand_record : goal.returns-then-not-expand_record
+returns-then-not-expand_record g c =
     let m = g.P.Plant.meaning c.args.plant.now in
     let tells = g.R.Record.tells in
     let k = kind tells g.R.Record.opens g.R.Record.carries c.args.leg.now.half in
     let l = leg_of c.args.leg.now in
     let d = c.args.depth in
     let s = c.args.self.now in
-    let F = g.L.Lookup.follows c.expand-record.new.lookup in
+    let F = g.L.Lookup.follows c.expand_record.new.lookup in
     let place = c.loop-place.place in
     let now-s = c.loop-place.self in
-    let got = subst (λ b. Expanded tells F m k l d (place + 1) now-s c.expand-record.new.self b) c.if-not-expand-record.true c.expand-record.ensures.expanded in
-    let kept = kept_on tells (g.L.Lookup.follows c.loop-place.lookup) F s now-s c.expand-record.new.self c.loop-place.invariant.0 got.0 in
+    let got = subst (λ b. Expanded tells F m k l d (place + 1) now-s c.expand_record.new.self b) c.if-not-expand_record.true c.expand_record.ensures.expanded in
+    let kept = kept_on tells (g.L.Lookup.follows c.loop-place.lookup) F s now-s c.expand_record.new.self c.loop-place.invariant.0 got.0 in
     record {
       completed = (kept, subst (λ n. n < room m l d) c.loop-place.invariant.0.long got.1);
-      lender = c.expand-record.ensures.lender ∙ c.loop-place.invariant.2;
+      lender = c.expand_record.ensures.lender ∙ c.loop-place.invariant.2;
     }
 
 pub loop-place-preserved : goal.loop-place-preserved
@@ -49,12 +49,12 @@ loop-place-preserved g c =
     let l = leg_of c.args.leg.now in
     let d = c.args.depth in
     let s = c.args.self.now in
-    let F = g.L.Lookup.follows c.expand-record.new.lookup in
+    let F = g.L.Lookup.follows c.expand_record.new.lookup in
     let place = c.loop-place.place in
     let now-s = c.loop-place.self in
-    let got = subst (λ b. Expanded tells F m k l d (place + 1) now-s c.expand-record.new.self b) c.if-not-expand-record.false c.expand-record.ensures.expanded in
-    let kept = kept_on tells (g.L.Lookup.follows c.loop-place.lookup) F s now-s c.expand-record.new.self c.loop-place.invariant.0 got.0 in
-    (kept, got.1, c.expand-record.ensures.lender ∙ c.loop-place.invariant.2)
+    let got = subst (λ b. Expanded tells F m k l d (place + 1) now-s c.expand_record.new.self b) c.if-not-expand_record.false c.expand_record.ensures.expanded in
+    let kept = kept_on tells (g.L.Lookup.follows c.loop-place.lookup) F s now-s c.expand_record.new.self c.loop-place.invariant.0 got.0 in
+    (kept, got.1, c.expand_record.ensures.lender ∙ c.loop-place.invariant.2)
 
 pub returns : goal.returns
 returns g c =

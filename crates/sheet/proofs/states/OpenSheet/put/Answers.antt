@@ -12,8 +12,8 @@ returns-in-None c =
     let s : State = state c.args.self.now in
     let b : Steps = steps c.args.answer c.args.count c.args.operations.now in
     let few : s.filled < s.declared = accepted_few s _ _ _ c.in-None.ensures in
-    let good : sound b ≡ true = kept_sound b (accepted_keeps s _ _ _ c.in-None.ensures) (omega arith) (λ i. omega (arith, c.type-inv.operations i)) in
-    let e = put_parts s b c.args.buffer.now _ _ _ _ _ c.write-body.ensures c.write-row.ensures refl (omega arith) (omega arith) in
+    let good : sound b ≡ true = kept_sound b (accepted_keeps s _ _ _ c.in-None.ensures) (omega arith) (λ i. omega (arith, c.type_inv.operations i)) in
+    let e = put_parts s b c.args.buffer.now _ _ _ _ _ c.write_body.ensures c.write_row.ensures refl (omega arith) (omega arith) in
     record {
       refusal = c.in-None.ensures;
       sheet = refl;

@@ -16,7 +16,7 @@ returns-in-Some c =
     let n = c.args.stations in
     let ls = c.args.links.now in
     let i = c.loop-link.count in
-    let here : row_fault n i (get_or ls i nothing) ≡ Some c.in-Some.f = ap (λ k. row_fault n i (get_or ls k nothing)) c.loop-link.invariant.0 ∙ sym c.fault-in.ensures ∙ c.in-Some.is in
+    let here : row_fault n i (get_or ls i nothing) ≡ Some c.in-Some.f = ap (λ k. row_fault n i (get_or ls k nothing)) c.loop-link.invariant.0 ∙ sym c.fault_in.ensures ∙ c.in-Some.is in
     fault_of_rows n ls (omega arith) (omega arith) (omega arith)
     ∙ sym c.loop-link.invariant.3
     ∙ rows_fault_here n i ls nothing c.in-Some.f (omega arith) here
@@ -29,15 +29,15 @@ loop-link-preserved c =
     let held = c.loop-link.held in
     let i = c.loop-link.count in
     let same : get_or ls i nothing ≡ get_or ls c.loop-link.link-index nothing = ap (λ k. get_or ls k nothing) c.loop-link.invariant.0 in
-    let here : row_fault n i (get_or ls i nothing) ≡ None = ap (row_fault n i) same ∙ sym c.fault-in.ensures ∙ c.in-None.is in (
+    let here : row_fault n i (get_or ls i nothing) ≡ None = ap (row_fault n i) same ∙ sym c.fault_in.ensures ∙ c.in-None.is in (
       omega arith,
       length-set held i _ ∙ c.loop-link.invariant.1,
       ap (λ l. take (i + 1) (set held i l)) (sym same) ∙ take_copied held ls i nothing (omega arith) (omega arith) c.loop-link.invariant.2,
       sym (rows_fault_later n i ls nothing (omega arith) here) ∙ c.loop-link.invariant.3,
     )
 
-pub invariant-of-result : goal.invariant-of-result
-invariant-of-result c =
+pub invariant_of-result : goal.invariant_of-result
+invariant_of-result c =
     let n = c.args.stations in
     let ls = c.args.links.now in
     let done = copied_faultless n c.loop-link.count ls c.loop-link.held (fault_of_rows n ls (omega arith) (omega arith) (omega arith)) (omega arith) c.loop-link.invariant.2 c.loop-link.invariant.3 in

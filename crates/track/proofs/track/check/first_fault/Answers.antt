@@ -6,6 +6,6 @@ use Rattle.track.proofs.track.check.first_fault.Goals as goal
 pub returns : goal.returns
 returns c =
     record {
-      exact = c.made-fault.ensures;
-      none = (λ e. data_from_none c.args.stations c.args.links.now (sym c.made-fault.ensures ∙ e), λ k. c.made-fault.ensures ∙ none_from_data c.args.stations c.args.links.now k);
+      exact = c.made_fault.ensures;
+      none = (λ e. data_from_none c.args.stations c.args.links.now (sym c.made_fault.ensures ∙ e), λ k. c.made_fault.ensures ∙ none_from_data c.args.stations c.args.links.now k);
     }

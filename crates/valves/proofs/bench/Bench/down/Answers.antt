@@ -17,8 +17,8 @@ returns-then-barred c =
     down_barred b c.args.setting v c.requires.valve c.requires.setting (subst (λ x. 0 < x) c.stands-from.ensures some)
     (subst (λ x. barred v x (x - 1) (placed b c.args.setting) (interlocks_of b) ≡ true) c.stands-from.ensures (sym c.barred.ensures ∙ c.if-barred.true))
 
-pub overflow-sub-result : goal.overflow-sub-result
-overflow-sub-result c =
+pub overflow_sub-result : goal.overflow_sub-result
+overflow_sub-result c =
     let b = c.args.self.now in
     let some : 0 < c.stands-from.result = omega (arith, c.if-from-eq0.false) in
     down_fits b c.args.setting c.args.valve c.requires.valve c.requires.setting (subst (λ x. 0 < x) c.stands-from.ensures some)

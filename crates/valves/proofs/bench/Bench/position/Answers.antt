@@ -10,7 +10,7 @@ returns c =
     let ns = counts_of c.args.self.now in
     let some = positive ns (data_of c.args.self.now).two in
     record {
-      exact = c.position-in.ensures;
+      exact = c.position_in.ensures;
       numbered =
           record {
             positions_in = λ s h. positions_within ns s some;

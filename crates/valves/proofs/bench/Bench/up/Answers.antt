@@ -5,8 +5,8 @@ use Rattle.valves.specs.Of.{interlocks_of}
 use Rattle.valves.proofs.Steps.{placed, stood, stood_few, up_fits, up_at_end, up_barred, up_free}
 use Rattle.valves.proofs.bench.Bench.up.Goals as goal
 
-pub overflow-add-to : goal.overflow-add-to
-overflow-add-to c =
+pub overflow_add-to : goal.overflow_add-to
+overflow_add-to c =
     let few = stood_few c.args.self.now c.args.setting c.args.valve c.requires.valve c.requires.setting in
     omega (arith, c.stands-from.ensures)
 
@@ -24,8 +24,8 @@ returns-then-barred c =
     (subst (λ x. x + 1 < get_or b.positions v 0) c.stands-from.ensures c.if-to-self.false)
     (subst (λ x. barred v x (x + 1) (placed b c.args.setting) (interlocks_of b) ≡ true) c.stands-from.ensures (sym c.barred.ensures ∙ c.if-barred.true))
 
-pub overflow-add-result : goal.overflow-add-result
-overflow-add-result c =
+pub overflow_add-result : goal.overflow_add-result
+overflow_add-result c =
     let b = c.args.self.now in
     let v = c.args.valve in
     let fits = up_fits b c.args.setting v c.requires.valve c.requires.setting (subst (λ x. x + 1 < get_or b.positions v 0) c.stands-from.ensures c.if-to-self.false) in

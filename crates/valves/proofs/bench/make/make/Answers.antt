@@ -6,12 +6,12 @@ use Rattle.valves.specs.Tables.{Weighs, Shares, Begins, Goes_on}
 use Rattle.valves.specs.Faultless.{none_from_data}
 use Rattle.valves.proofs.bench.make.make.Goals as goal
 
-pub invariant-of-result : goal.invariant-of-result
-invariant-of-result c =
+pub invariant_of-result : goal.invariant_of-result
+invariant_of-result c =
     let ns = c.args.positions.now in
     let ls = c.args.interlocks.now in
-    let held = sym c.held-positions.ensures in
-    let locks = sym c.held-interlocks.ensures in
+    let held = sym c.held_positions.ensures in
+    let locks = sym c.held_interlocks.ensures in
     let few = c.requires.valves_most in (
       (search rules, search rules, search rules, search rules),
       (
@@ -19,16 +19,16 @@ invariant-of-result c =
         (
           (c.requires.valves_most, c.requires.rows_most),
           (
-            subst (λ x. is_some (bench_fault x (take (length ls) c.held-interlocks.result)) ≡ false) held (subst (λ x. is_some (bench_fault ns x) ≡ false) locks (ap is_some (none_from_data ns ls c.requires))),
+            subst (λ x. is_some (bench_fault x (take (length ls) c.held_interlocks.result)) ≡ false) held (subst (λ x. is_some (bench_fault ns x) ≡ false) locks (ap is_some (none_from_data ns ls c.requires))),
             (
-              subst (λ x. Weighs x c.weights-of-settings.result.weights) held c.weights-of-settings.ensures.weighs,
+              subst (λ x. Weighs x c.weights_of-settings.result.weights) held c.weights_of-settings.ensures.weighs,
               (
-                subst (λ x. Shares x c.weights-of-settings.result.shares) held c.weights-of-settings.ensures.shared,
+                subst (λ x. Shares x c.weights_of-settings.result.shares) held c.weights_of-settings.ensures.shared,
                 (
-                  subst (λ x. c.weights-of-settings.result.settings ≡ product x) held c.weights-of-settings.ensures.counts,
+                  subst (λ x. c.weights_of-settings.result.settings ≡ product x) held c.weights_of-settings.ensures.counts,
                   (
-                    subst (λ x. Begins (length ns) x c.chains-of.result.first) locks (λ v h. c.chains-of.ensures.begins v (omega arith)),
-                    (subst (λ x. Goes_on x c.chains-of.result.following) locks c.chains-of.ensures.goes, tt),
+                    subst (λ x. Begins (length ns) x c.chains_of.result.first) locks (λ v h. c.chains_of.ensures.begins v (omega arith)),
+                    (subst (λ x. Goes_on x c.chains_of.result.following) locks c.chains_of.ensures.goes, tt),
                   ),
                 ),
               ),

@@ -14,16 +14,16 @@ place-more f xs v x inside is so =
 next_weight : (ns : List ℕ) (v w : ℕ) → v < length ns → w ≡ weight ns v → w * get_or ns v 0 ≡ weight ns (suc v)
 next_weight ns v w h is = ap (λ x. x * get_or ns v 0) is ∙ sym (weight_more ns v h)
 
-pub overflow-mul-weight : goal.overflow-mul-weight
-overflow-mul-weight c =
+pub overflow_mul-weight : goal.overflow_mul-weight
+overflow_mul-weight c =
     let ns = c.args.positions.now in
     let v = c.loop-valve.valve in
     let next = next_weight ns v c.loop-valve.weight c.loop-valve-test.true c.loop-valve.invariant.2 in
     let most = weight_few ns (suc v) (omega (arith, c.requires.few)) c.requires.four in
     omega arith
 
-pub nonzero-div-shares : goal.nonzero-div-shares
-nonzero-div-shares c =
+pub nonzero_div-shares : goal.nonzero_div-shares
+nonzero_div-shares c =
     let ns = c.args.positions.now in
     let v = c.loop-valve.valve in
     let next = next_weight ns v c.loop-valve.weight c.loop-valve-test.true c.loop-valve.invariant.2 in

@@ -14,6 +14,6 @@ returns g c =
     let n = c.in-ok-planned.planned.length in
     let number = c.in-ok-planned.planned.count in
     record {
-      filled = filled answer c.args.target (work_in c.args.self.now) c.plan-with-index.new.list n number told.answer.0;
+      filled = filled answer c.args.target (work_in c.args.self.now) c.plan_with_index.new.list n number told.answer.0;
       records = told.records;
     }
