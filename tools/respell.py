@@ -32,7 +32,9 @@ def read(path):
 
 
 # These would fall together with a name that stands beside them: old name and new one.
-APART = {"Out-of-reach": "LiesOutOfReach"}
+APART = {"Out-of-reach": "LiesOutOfReach", "bit-xor": "xor_bit"}
+# port.py has turned these halfway.
+HALFWAY = {"Goes_on": "GoesOn"}
 
 
 def respelled(name):
@@ -104,6 +106,7 @@ def main():
         for n in sorted(ours & std):
             print("std has it too:", n)
         return
+    names.update(HALFWAY)
     for path in list(files(".antt")):
         text = read(path)
         new = turn(text, names)

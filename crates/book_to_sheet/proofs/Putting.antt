@@ -3,7 +3,7 @@ use Rattle.std.proofs.Common.{◌≡◌, ℕ, ◌+◌, true, false, List, [], �
 use Rattle.sheet.specs.declared.refusal.SheetRefusal.{SheetRefusal}
 use Rattle.sheet.specs.Steps.{Steps, steps}
 use Rattle.sheet.specs.Bytes.{body_length}
-use Rattle.sheet.specs.States.{State, Written, put_state, put_refusal, Goes_on}
+use Rattle.sheet.specs.States.{State, Written, put_state, put_refusal, GoesOn}
 use Rattle.book_to_sheet.specs.declared.answer.Answer.{Answer}
 use Rattle.book_to_sheet.specs.Told.{ToldIf}
 use Rattle.book_to_sheet.specs.Filled.{EntryPut}
@@ -13,7 +13,7 @@ module _ (a : Answer) (ops : List ℕ) (s s' : State) (buffer buffer' : List ℕ
   given = steps a.answer a.count ops
 
   -- the body is put behind those before it
-  pub answer_put : (o : Option Steps) → ToldIf o (Some a) → s' ≡ put_state s given → Goes_on None s s' given buffer buffer' → EntryPut o s s' buffer buffer' true
+  pub answer_put : (o : Option Steps) → ToldIf o (Some a) → s' ≡ put_state s given → GoesOn None s s' given buffer buffer' → EntryPut o s s' buffer buffer' true
   answer_put None t e go = absurd t
   answer_put (Some b) t e go =
       let same : given ≡ b = ap (steps a.answer a.count) list ∙ t.says in

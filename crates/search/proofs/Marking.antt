@@ -29,8 +29,8 @@ bit_other j k ne =
 bit_same : (k : ℕ) → 2 ^ k / 2 ^ k % 2 ≡ 1
 bit_same k = ap (λ n. n % 2) (div_self (pow_pos k))
 
-bit_xor : (x y k : ℕ) → bit_xor x y / 2 ^ k % 2 ≡ bit_xor (x / 2 ^ k % 2) (y / 2 ^ k % 2)
-bit_xor x y k = ap (λ n. n % 2) (xor_shr x y k) ∙ xor_mod (x / 2 ^ k) (y / 2 ^ k) 1
+xor_bit : (x y k : ℕ) → bit_xor x y / 2 ^ k % 2 ≡ bit_xor (x / 2 ^ k % 2) (y / 2 ^ k % 2)
+xor_bit x y k = ap (λ n. n % 2) (xor_shr x y k) ∙ xor_mod (x / 2 ^ k) (y / 2 ^ k) 1
 
 -- the other one of 0 and 1
 other_bit : (b : ℕ) → b < 2 → bit_xor b 1 ≡ 1 - b
@@ -47,7 +47,7 @@ module _ (memory : List ℕ) (u : ℕ) (inside : u / 32 < length memory) where
   unfolding mark_of
   turned_same =
       ap (λ n. n / 2 ^ (u % 32) % 2) (get_or-set_same memory (u / 32) (bit_xor (get_or memory (u / 32) 0) (2 ^ (u % 32))) 0 inside)
-      ∙ bit_xor (get_or memory (u / 32) 0) (2 ^ (u % 32)) (u % 32)
+      ∙ xor_bit (get_or memory (u / 32) 0) (2 ^ (u % 32)) (u % 32)
       ∙ ap (bit_xor (get_or memory (u / 32) 0 / 2 ^ (u % 32) % 2)) (bit_same (u % 32))
       ∙ other_bit (get_or memory (u / 32) 0 / 2 ^ (u % 32) % 2) (mark_below memory u)
 
@@ -60,7 +60,7 @@ module _ (memory : List ℕ) (u : ℕ) (inside : u / 32 < length memory) where
           let apart : u % 32 ≢ w % 32 = λ same. ne (omega (arith, e, same)) in
           ap (λ i. get_or (turned memory u) i 0 / 2 ^ (w % 32) % 2) e
           ∙ ap (λ n. n / 2 ^ (w % 32) % 2) (get_or-set_same memory (u / 32) (bit_xor (get_or memory (u / 32) 0) (2 ^ (u % 32))) 0 inside)
-          ∙ bit_xor (get_or memory (u / 32) 0) (2 ^ (u % 32)) (w % 32)
+          ∙ xor_bit (get_or memory (u / 32) 0) (2 ^ (u % 32)) (w % 32)
           ∙ ap (bit_xor (get_or memory (u / 32) 0 / 2 ^ (w % 32) % 2)) (bit_other (u % 32) (w % 32) apart)
           ∙ xor_zero_r (get_or memory (u / 32) 0 / 2 ^ (w % 32) % 2)
           ∙ ap (λ i. get_or memory i 0 / 2 ^ (w % 32) % 2) (sym e)

@@ -65,9 +65,9 @@ pub record Written (s : State) (buffer : List ℕ) (bs : List Steps) (rest : Lis
   pub begins : buffer ≡ sheet_bytes s.declared bs ++ rest
 
 -- a body that is put comes behind those before it: the sheet of one body more, and nothing else, is written
-abbrev pub Goes_on : Option SheetRefusal → State → State → Steps → List ℕ → List ℕ → Type 0
-Goes_on (Some r) s s' b buffer buffer' = Unit {0}
-Goes_on None s s' b buffer buffer' =
+abbrev pub GoesOn : Option SheetRefusal → State → State → Steps → List ℕ → List ℕ → Type 0
+GoesOn (Some r) s s' b buffer buffer' = Unit {0}
+GoesOn None s s' b buffer buffer' =
     (bs : List Steps) (rest : List ℕ) → Written s buffer bs rest → Written s' buffer' (bs ++ b ∷ []) (drop (body_length b) rest)
 
 -- a sheet that is closed at this length is that of its bodies, all of them: at most 64, each sound

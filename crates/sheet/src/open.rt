@@ -2,7 +2,7 @@
 ghost use Rattle.std.specs.Prelude.{◌≡◌, ℕ, ◌+◌, ◌*◌, List, [], ◌∷◌, ◌++◌, length, Some, None, Ok, Err};
 ghost use Rattle.std.specs.Result.{result_err};
 ghost use Rattle.sheet.specs.Steps.{steps, go_together};
-ghost use Rattle.sheet.specs.States.{state, closed_length, put_refusal, put_refusal_by, put_state, put_bytes, close_refusal, unless, Goes_on, Completes};
+ghost use Rattle.sheet.specs.States.{state, closed_length, put_refusal, put_refusal_by, put_state, put_bytes, close_refusal, unless, GoesOn, Completes};
 
 use crate::refusal::SheetRefusal;
 use crate::states::{ClosedSheet, NotClosed, OpenSheet};
@@ -54,7 +54,7 @@ impl OpenSheet {
         ensures refusal { result_err result ≡ put_refusal (state self.old) (steps answer count operations.now) (length buffer.old) }
         ensures sheet { state self.new ≡ unless (result_err result) (state self.old) (put_state (state self.old) (steps answer count operations.now)) }
         ensures bytes { buffer.new ≡ unless (result_err result) buffer.old (put_bytes (state self.old) (steps answer count operations.now) buffer.old) }
-        ensures written { Goes_on (result_err result) (state self.old) (state self.new) (steps answer count operations.now) buffer.old buffer.new }
+        ensures written { GoesOn (result_err result) (state self.old) (state self.new) (steps answer count operations.now) buffer.old buffer.new }
     {
         match self.refusal(buffer.len(), answer, count, operations.len()) {
             Some(refusal) => Err(refusal),

@@ -21,5 +21,5 @@ abbrev pub Begins : ℕ → List Interlock → List ℕ → Type 0
 Begins valves ls first = (v : ℕ) → v < valves → slice_index first v ≡ row_from ls v 0
 
 -- after each interlock, the next of the same valve
-abbrev pub Goes_on : List Interlock → List ℕ → Type 0
-Goes_on ls following = (r : ℕ) (d : Interlock) → r < length ls → slice_index following r ≡ row_from ls (slice_index_or ls r d).valve (suc r)
+abbrev pub GoesOn : List Interlock → List ℕ → Type 0
+GoesOn ls following = (r : ℕ) (d : Interlock) → r < length ls → slice_index following r ≡ row_from ls (slice_index_or ls r d).valve (suc r)

@@ -3,7 +3,7 @@
 ghost use Rattle.std.specs.Prelude.{◌≡◌, ◌≤◌, false, length, take, is_some};
 ghost use Rattle.valves.specs.Positions.{product};
 ghost use Rattle.valves.specs.Faults.{bench_fault};
-ghost use Rattle.valves.specs.Tables.{Weighs, Shares, Begins, Goes_on};
+ghost use Rattle.valves.specs.Tables.{Weighs, Shares, Begins, GoesOn};
 
 use crate::interlock::Interlock;
 
@@ -36,5 +36,5 @@ pub struct Bench {
     ghost shared: { Shares (take valves positions) shares },
     ghost counts: { settings ≡ product (take valves positions) },
     ghost begins: { Begins valves (take rows interlocks) first },
-    ghost goes: { Goes_on (take rows interlocks) following },
+    ghost goes: { GoesOn (take rows interlocks) following },
 }

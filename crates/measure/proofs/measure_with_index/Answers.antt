@@ -1,6 +1,6 @@
 -- The answer is the leg's, and the records are cleared after a search.
 use Rattle.std.proofs.Common.{◌≡◌, ltb, length, replicate, sym, ap, ◌∙◌}
-use Rattle.legs.specs.Legs.{leg_length, expanded, goal}
+use Rattle.legs.specs.Legs.{leg_length, expanded, need}
 use Rattle.legs.specs.PlanLaws.{Measures}
 use Rattle.legs.proofs.Laws.{legs_lawful}
 use Rattle.legs.proofs.PlanLaws.{plans_lawful}
@@ -18,7 +18,7 @@ returns-in-Ok g c =
     let found = c.in-Ok.ensures.answer.0 in
     record {
       answer = found;
-      records = c.clear_all.ensures ∙ ap (λ n. replicate n 0) c.search_leg_with_index.auto.records ∙ left_found 0 m l (ltb (length rs) (goal m l)) (leg_length m l) (expanded m l) (record { found = c.in-Ok.field-0.length; count = c.in-Ok.field-0.expanded }) rs found;
+      records = c.clear_all.ensures ∙ ap (λ n. replicate n 0) c.search_leg_with_index.auto.records ∙ left_found 0 m l (ltb (length rs) (need m l)) (leg_length m l) (expanded m l) (record { found = c.in-Ok.field-0.length; count = c.in-Ok.field-0.expanded }) rs found;
       laws = legs_lawful m lawful;
       least = (plans_lawful m lawful).measures;
     }
@@ -34,7 +34,7 @@ returns-in-Err g c =
       answer = refused;
       records =
           c.clear_after.ensures ∙ ap (left_by 0 c.in-Err.refusal) c.search_leg_with_index.ensures.records
-          ∙ left_refused 0 m l (ltb (length rs) (goal m l)) (leg_length m l) (expanded m l) c.in-Err.refusal rs (leg_leaves 0 m l rs) (leg_leaves_long 0 m l rs) (leg_leaves_outside 0 m l rs) refused;
+          ∙ left_refused 0 m l (ltb (length rs) (need m l)) (leg_length m l) (expanded m l) c.in-Err.refusal rs (leg_leaves 0 m l rs) (leg_leaves_long 0 m l rs) (leg_leaves_outside 0 m l rs) refused;
       laws = legs_lawful m lawful;
       least = (plans_lawful m lawful).measures;
     }

@@ -2,7 +2,7 @@
 ghost use Rattle.std.specs.Prelude.{◌≡◌, ℕ, ◌<◌, ◌≤◌, length, take, slice_index, slice_index_or};
 ghost use Rattle.valves.specs.declared.interlock.Interlock.{Interlock as Lock};
 ghost use Rattle.valves.specs.Positions.{product};
-ghost use Rattle.valves.specs.Tables.{Weighs, Shares, Begins, Goes_on};
+ghost use Rattle.valves.specs.Tables.{Weighs, Shares, Begins, GoesOn};
 
 use crate::interlock::Interlock;
 
@@ -76,7 +76,7 @@ pub(crate) fn chains_of(interlocks: &[Interlock]) -> Chains
     requires few { length interlocks.now ≤ 32 }
     requires twelve { (r : ℕ) (d : Lock) → r < length interlocks.now → (slice_index_or interlocks.now r d).valve < 12 }
     ensures begins { Begins 12 interlocks.now result.first }
-    ensures goes { Goes_on interlocks.now result.following }
+    ensures goes { GoesOn interlocks.now result.following }
 {
     let mut row = interlocks.len();
     let mut first = [row as u8; 12];

@@ -2,7 +2,7 @@
 use Rattle.std.proofs.Common.{◌≡◌, ◌++◌, length, drop, replicate, Some, sym, ap, ◌∙◌, subst, arith}
 use Rattle.legs.specs.Kinds.{Kind, Tells}
 use Rattle.legs.specs.Layers.{In, layer}
-use Rattle.legs.specs.Legs.{end, goal}
+use Rattle.legs.specs.Legs.{end, need}
 use Rattle.legs.proofs.Need.{need_one}
 use Rattle.search.specs.Records.{kind}
 use Rattle.search.specs.Leg.{leg_of}
@@ -17,7 +17,7 @@ returns-then-all-eq0 g c =
     let l = leg_of c.args.leg.now in
     record {
       answer = omega (arith, c.if-all-eq0.true, need_one m l);
-      records = zeroed_none g.R.Record.blank (goal m l) c.args.records.now c.if-all-eq0.true;
+      records = zeroed_none g.R.Record.blank (need m l) c.args.records.now c.if-all-eq0.true;
     }
 
 pub returns-in-Some-hit : goal.returns-in-Some-hit
@@ -40,7 +40,7 @@ returns-in-Some-hit g c =
       );
       records =
           c.blank_front.ensures ∙ ap (λ n. replicate n g.R.Record.blank ++ drop n c.walk_by.new.records) used
-          ∙ zeroed_front g.R.Record.blank (goal m l) c.args.records.now c.walk_by.new.records ran.3 ran.4;
+          ∙ zeroed_front g.R.Record.blank (need m l) c.args.records.now c.walk_by.new.records ran.3 ran.4;
     }
 
 pub returns-in-None : goal.returns-in-None
@@ -50,5 +50,5 @@ returns-in-None g c =
     let few = c.in-None.ensures in
     record {
       answer = few;
-      records = c.blank_front-in-None.ensures ∙ zeroed_all g.R.Record.blank (goal m l) c.args.records.now c.walk_by.new.records (omega (arith, few)) c.walk_by.auto.records;
+      records = c.blank_front-in-None.ensures ∙ zeroed_all g.R.Record.blank (need m l) c.args.records.now c.walk_by.new.records (omega (arith, few)) c.walk_by.auto.records;
     }

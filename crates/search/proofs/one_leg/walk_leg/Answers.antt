@@ -1,7 +1,7 @@
 -- The leg ran to its end in the store that these records made.
 use Rattle.std.proofs.Common.{◌≡◌, ℕ, ◌≤◌, List, [], length, drop, sym, refl, ap, ◌∙◌, subst, arith, rules}
 use Rattle.legs.specs.Kinds.{Kind, Tells}
-use Rattle.legs.specs.Legs.{end, expanded, goal, sizes, most_room}
+use Rattle.legs.specs.Legs.{end, expanded, need, sizes, most_room}
 use Rattle.legs.proofs.Need.{need_one}
 use Rattle.search.specs.Records.{kind}
 use Rattle.search.specs.Leg.{leg_of}
@@ -22,16 +22,16 @@ returns-in-Some g c =
     let w = c.in-Some.ensures.ran.0 in
     let e = c.in-Some.ensures.ran.1 in
     let begun = c.begin.ensures.begun in
-    let needed : c.in-Some.ended.used ≡ goal m l = w.used_is ∙ ap (most_room m l) e in
+    let needed : c.in-Some.ended.used ≡ need m l = w.used_is ∙ ap (most_room m l) e in
     let behind = subst (λ n. drop n (room_of c.run-end.new.self) ≡ drop n (room_of c.begin.new.self)) needed w.behind in
-    let from_start = drop_further 1 (goal m l) (room_of c.begin.new.self) c.args.records.now (need_one m l) begun.behind in
+    let from_start = drop_further 1 (need m l) (room_of c.begin.new.self) c.args.records.now (need_one m l) begun.behind in
     record {
       run = (
         e,
         w.counted ∙ ap (sizes m l) e,
         needed,
         omega (arith, needed, w.used_fits, begun.long),
-        same_behind _ (room_of c.run-end.new.self) c.args.records.now (goal m l) (search rules) (behind ∙ from_start),
+        same_behind _ (room_of c.run-end.new.self) c.args.records.now (need m l) (search rules) (behind ∙ from_start),
         hit_at_end m lawful k t l c.in-Some.ended.depth [] c.run-end.new.self c.record_of.result w.stands e c.record_of.ensures,
       );
       cleared = c.tell_cleared.ensures;

@@ -41,7 +41,7 @@ invariant_of-result c =
     let n = c.args.stations in
     let ls = c.args.links.now in
     let done = copied_faultless n c.loop-link.count ls c.loop-link.held (fault_of_rows n ls (omega arith) (omega arith) (omega arith)) (omega arith) c.loop-link.invariant.2 c.loop-link.invariant.3 in
-    (c.loop-link.invariant.1, (omega arith, (ap (λ held. is_some (fault n held)) done.1 ∙ ap is_some done.0, tt)))
+    record { room = c.loop-link.invariant.1; used = omega arith; faultless = ap (λ held. is_some (fault n held)) done.1 ∙ ap is_some done.0 }
 
 pub returns : goal.returns
 returns c =
