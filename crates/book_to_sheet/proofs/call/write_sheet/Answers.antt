@@ -7,11 +7,11 @@ use Rattle.book_sheet.proofs.JobByJob.{bodies_for_jobs}
 use Rattle.book_to_sheet.proofs.Closing.{head_short, all_there, closed_length, closed_bytes, closed_fits}
 use Rattle.book_to_sheet.proofs.call.write_sheet.Goals as goal
 
-pub returns-in-default : goal.returns-in-default
-returns-in-default c =
+pub returns-in_default : goal.returns-in_default
+returns-in_default c =
     let book = file_bytes c.args.file.now in
     let jobs = c.count_jobs-jobs.ensures.jobs ∙ sym (bodies_for_jobs book c.requires.faultless.read) in
-    head_short (book_steps book) c.count_jobs-jobs.result (length c.args.buffer.now) c.in-default.field-0 jobs c.count_jobs-jobs.ensures.few c.in-default.ensures.refusal
+    head_short (book_steps book) c.count_jobs-jobs.result (length c.args.buffer.now) c.in_default.field-0 jobs c.count_jobs-jobs.ensures.few c.in_default.ensures.refusal
 
 pub unreachable-requires : goal.unreachable-requires
 unreachable-requires c =

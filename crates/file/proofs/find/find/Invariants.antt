@@ -7,8 +7,8 @@ use Rattle.file.proofs.find.find.Given as goal
 
 abbrev pub invariant-loop-before : goal.invariant-loop-before
 invariant-loop-before l =
-    (slice_get (parts_from (l.entries - l.-before) l.rest l.place (drop l.place l.file)) (l.number - l.-before)
+    (slice_get (parts_from (l.entries - l._before) l.rest l.place (drop l.place l.file)) (l.number - l._before)
     ≡ slice_get (parts_from l.entries l.rows (2 + 4 * l.entries) (drop (2 + 4 * l.entries) l.file)) l.number)
-    × (4 * (l.entries - l.-before) ≤ length l.rest)
-    × (l.place + rows_length (l.entries - l.-before) l.rest ≡ length l.file)
-    × (known_rows (l.entries - l.-before) l.rest ≡ true)
+    × (4 * (l.entries - l._before) ≤ length l.rest)
+    × (l.place + rows_length (l.entries - l._before) l.rest ≡ length l.file)
+    × (known_rows (l.entries - l._before) l.rest ≡ true)

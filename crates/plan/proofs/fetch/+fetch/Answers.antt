@@ -16,15 +16,15 @@ returns-then-count-eq0 g t c =
     let records = length c.args.records.now in
     fetched_none m lawful n s goal records c.args.list.now c.if-count-eq0.true c.requires.long c.requires.distance
 
-pub returns-in-default : goal.returns-in-default
-returns-in-default g t c =
+pub returns-in_default : goal.returns-in_default
+returns-in_default g t c =
     let m = g.P.Plant.meaning c.args.plant.now in
     let lawful = g.met.P.Plant.lawful c.args.plant.now in
     let n = c.args.count in
     let s = c.args.start in
     let goal = c.args.target in
     let records = length c.args.records.now in
-    absurd (some_lowest m lawful n s goal c.if-count-eq1.true c.requires.distance c.in-default.ensures)
+    absurd (some_lowest m lawful n s goal c.if-count-eq1.true c.requires.distance c.in_default.ensures)
 
 pub returns-then-count-eq1 : goal.returns-then-count-eq1
 returns-then-count-eq1 g t c =
@@ -36,8 +36,8 @@ returns-then-count-eq1 g t c =
     let records = length c.args.records.now in
     fetched_one m lawful n s goal records c.in-Some.operation c.args.list.now c.if-count-eq1.true c.requires.long c.in-Some.ensures
 
-pub returns-in-default-search_leg_with_index : goal.returns-in-default-search_leg_with_index
-returns-in-default-search_leg_with_index g t c =
+pub returns-in_default-search_leg_with_index : goal.returns-in_default-search_leg_with_index
+returns-in_default-search_leg_with_index g t c =
     let m = g.P.Plant.meaning c.args.plant.now in
     let lawful = g.met.P.Plant.lawful c.args.plant.now in
     let n = c.args.count in
@@ -45,7 +45,7 @@ returns-in-default-search_leg_with_index g t c =
     let goal = c.args.target in
     let records = length c.args.records.now in
     let two : 2 ≤ n = omega (arith, c.if-count-eq0.false, c.if-count-eq1.false) in
-    leg_overfull m lawful n s goal records two c.requires.short c.requires.start c.requires.target c.requires.distance c.in-default-search_leg_with_index.field-0 c.in-default-search_leg_with_index.ensures.answer
+    leg_overfull m lawful n s goal records two c.requires.short c.requires.start c.requires.target c.requires.distance c.in_default-search_leg_with_index.field-0 c.in_default-search_leg_with_index.ensures.answer
 
 pub fetch-requires : goal.fetch-requires
 fetch-requires g t c κs within =
@@ -76,8 +76,8 @@ fetch-requires g t c κs within =
       ),
     )
 
-pub returns-in-default-fetch : goal.returns-in-default-fetch
-returns-in-default-fetch g t c =
+pub returns-in_default-fetch : goal.returns-in_default-fetch
+returns-in_default-fetch g t c =
     let m = g.P.Plant.meaning c.args.plant.now in
     let lawful = g.met.P.Plant.lawful c.args.plant.now in
     let n = c.args.count in
@@ -89,7 +89,7 @@ returns-in-default-fetch g t c =
     let found = c.in-Ok.ensures.answer.0 in
     let half = relay_halfway m lawful n s goal records two c.requires.short c.requires.start c.requires.target c.requires.distance a found c.in-Ok.reached.record c.in-Ok.ensures.answer.1.0 c.in-Ok.ensures.answer.1.1 in
     let relay = c.in-Ok.reached.record.relay in
-    first_overfull m lawful n s goal records two c.requires.short c.requires.start c.requires.target c.requires.distance a found relay c.fetch.new.list half (subst (λ k. Fetched m (n / 2) s relay k c.fetch.new.list None) c.search_leg_with_index.auto.records c.in-default-fetch.ensures)
+    first_overfull m lawful n s goal records two c.requires.short c.requires.start c.requires.target c.requires.distance a found relay c.fetch.new.list half (subst (λ k. Fetched m (n / 2) s relay k c.fetch.new.list None) c.search_leg_with_index.auto.records c.in_default-fetch.ensures)
 
 pub fetch-requires-2 : goal.fetch-requires-2
 fetch-requires-2 g t c κs within =
@@ -122,8 +122,8 @@ fetch-requires-2 g t c κs within =
       ),
     )
 
-pub returns-in-default-fetch-2 : goal.returns-in-default-fetch-2
-returns-in-default-fetch-2 g t c =
+pub returns-in_default-fetch-2 : goal.returns-in_default-fetch-2
+returns-in_default-fetch-2 g t c =
     let m = g.P.Plant.meaning c.args.plant.now in
     let lawful = g.met.P.Plant.lawful c.args.plant.now in
     let n = c.args.count in
@@ -136,7 +136,7 @@ returns-in-default-fetch-2 g t c =
     let half = relay_halfway m lawful n s goal records two c.requires.short c.requires.start c.requires.target c.requires.distance a found c.in-Ok.reached.record c.in-Ok.ensures.answer.1.0 c.in-Ok.ensures.answer.1.1 in
     let relay = c.in-Ok.reached.record.relay in
     let same = c.fetch.auto.records ∙ c.search_leg_with_index.auto.records in
-    second_overfull m lawful n s goal records two c.requires.short c.requires.start c.requires.target c.requires.distance a found relay c.fetch-2.new.list half (subst (λ k. Fetched m (n - n / 2) relay goal k c.fetch-2.new.list None) same c.in-default-fetch-2.ensures)
+    second_overfull m lawful n s goal records two c.requires.short c.requires.start c.requires.target c.requires.distance a found relay c.fetch-2.new.list half (subst (λ k. Fetched m (n - n / 2) relay goal k c.fetch-2.new.list None) same c.in_default-fetch-2.ensures)
 
 pub overflow_add-result : goal.overflow_add-result
 overflow_add-result g t c =

@@ -9,17 +9,17 @@ use Rattle.sequencer.specs.Table.{work_in}
 use Rattle.sequencer.proofs.Calls.{state_is, call_refused, call_accepted}
 use Rattle.sequencer.proofs.sequencer.Sequencer.done.Goals as goal
 
-pub returns-in-err-advance : goal.returns-in-err-advance
-returns-in-err-advance g c =
+pub returns-in_err-advance : goal.returns-in_err-advance
+returns-in_err-advance g c =
     let m = g.P.Plant.meaning c.args.self.now.plant.below in
     let lawful = g.met.P.Plant.lawful c.args.self.now.plant.below in
     let before = state_of c.args.self.now in
     let o = c.args.operation in
     let after : State = record { setting = before.setting; tags = before.tags; list = work_in c.advance.new.self } in
     let p = err_from_is_err_and c.from-residual.result c.from-residual.ensures.1 in
-    let e = c.in-err-advance.ensures in
+    let e = c.in_err-advance.ensures in
     let kept =
-    call_refused m lawful before (done o) after c.from-residual.result c.in-err-advance.field-0.0 p.0 e.0 p.1 p.2
+    call_refused m lawful before (done o) after c.from-residual.result c.in_err-advance.field-0.0 p.0 e.0 p.1 p.2
     (state_is after before refl refl e.1) in
     record {
       carried = kept.0;
@@ -34,7 +34,7 @@ returns-in-Some g c =
     let before = state_of c.args.self.now in
     let o = c.args.operation in
     let after : State = record { setting = c.in-Some.next; tags = before.tags; list = work_in c.advance.new.self } in
-    let e = c.in-ok-advance.ensures in
+    let e = c.in_ok-advance.ensures in
     let steps = sym c.in-Some.is ∙ c.step.ensures ∙ ap (λ p. (g.P.Plant.meaning p).step before.setting o) c.below.ensures in
     let kept =
     call_accepted m lawful before (done o) after (Ok tt) e.0 refl
@@ -52,7 +52,7 @@ returns-in-None g c =
     let before = state_of c.args.self.now in
     let o = c.args.operation in
     let after : State = record { setting = before.setting; tags = before.tags; list = work_in c.advance.new.self } in
-    let e = c.in-ok-advance.ensures in
+    let e = c.in_ok-advance.ensures in
     let steps = sym c.in-None.is ∙ c.step.ensures ∙ ap (λ p. (g.P.Plant.meaning p).step before.setting o) c.below.ensures in
     let kept =
     call_accepted m lawful before (done o) after (Ok tt) e.0 refl
