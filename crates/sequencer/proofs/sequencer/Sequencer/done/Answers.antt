@@ -16,10 +16,10 @@ returns-in_err-advance g c =
     let before = state_of c.args.self.now in
     let o = c.args.operation in
     let after : State = record { setting = before.setting; tags = before.tags; list = work_in c.advance.new.self } in
-    let p = err_from_is_err_and c.from-residual.result c.from-residual.ensures.1 in
+    let p = err_from_is_err_and c.from_residual.result c.from_residual.ensures.1 in
     let e = c.in_err-advance.ensures in
     let kept =
-    call_refused m lawful before (done o) after c.from-residual.result c.in_err-advance.field-0.0 p.0 e.0 p.1 p.2
+    call_refused m lawful before (done o) after c.from_residual.result c.in_err-advance.field-0.0 p.0 e.0 p.1 p.2
     (state_is after before refl refl e.1) in
     record {
       carried = kept.0;

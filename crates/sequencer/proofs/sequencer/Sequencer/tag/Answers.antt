@@ -15,10 +15,10 @@ returns-in_err-tag g c =
     let before = state_of c.args.self.now in
     let o = c.args.operation in
     let after : State = record { setting = before.setting; tags = c.tag.new.self.tags; list = before.list } in
-    let p = err_from_is_err_and c.from-residual.result c.from-residual.ensures.1 in
+    let p = err_from_is_err_and c.from_residual.result c.from_residual.ensures.1 in
     let e = c.in_err-tag.ensures in
     let kept =
-    call_refused m lawful before (tag o) after c.from-residual.result c.in_err-tag.field-0.0 p.0 e.tagged.0 p.1 p.2
+    call_refused m lawful before (tag o) after c.from_residual.result c.in_err-tag.field-0.0 p.0 e.tagged.0 p.1 p.2
     (state_is after before refl e.tagged.1 refl) in
     record {
       carried = kept.0;
