@@ -1,4 +1,5 @@
 -- What the sheet makes of the answer to one entry. Assumes nothing.
+use Rattle.std.proofs.lemmas.List.{append-nil}
 use Rattle.std.proofs.Common.{◌≡◌, ℕ, ◌+◌, true, false, List, [], ◌∷◌, ◌++◌, length, take, drop, is_some, Some, None, Option, sym, refl, ap, ◌∙◌, subst, arith}
 use Rattle.sheet.specs.declared.refusal.SheetRefusal.{SheetRefusal}
 use Rattle.sheet.specs.Steps.{Steps, steps}
@@ -29,3 +30,8 @@ module _ (a : Answer) (ops : List ℕ) (s s' : State) (buffer buffer' : List ℕ
   answer_refused (Some b) r t e =
       let same : given ≡ b = ap (steps a.answer a.count) list ∙ t.says in
       (b, refl, t.kept, sym (ap (λ x. is_some (put_refusal s x (length buffer))) same) ∙ sym (ap is_some e))
+
+-- where there is nothing to be told, nothing is put
+pub nothing_put : (o : Option Steps) (s : State) (buffer : List ℕ) → ToldIf o None → EntryPut o s s buffer buffer true
+nothing_put None s buffer t = (refl, λ bs rest w. subst (λ xs. Written s buffer xs rest) (sym (append-nil bs)) w)
+nothing_put (Some b) s buffer t = absurd t
