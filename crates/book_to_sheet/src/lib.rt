@@ -5,5 +5,4 @@ mod answer;
 pub mod call;
 mod entries;
 mod fill;
-pub mod for_c;
 mod jobs;

@@ -1,9 +1,11 @@
 // The call from book to sheet, for callers in C.
+#![tactic(auto)]
+
 ghost use Rattle.std.specs.Prelude.{◌≡◌, length};
 ghost use Rattle.book_sheet.specs.Sheets.{sheet_told, sheet_left};
 ghost use Rattle.book_to_sheet.specs.Code.{one_number, Tells};
 
-use crate::call::book_to_sheet;
+use book_to_sheet::call::book_to_sheet;
 use fault_code::coded;
 
 // As `book_to_sheet`, with the answer as one number: the sheet's length, which is below 65,536, or the fault, 65,536 times
