@@ -122,9 +122,12 @@ fn an_interlock_bars_its_first_valve(rt: HostRuntime) -> Result<(), Fail> {
         (1, 2, Some(5)),
         (5, 3, Some(1)),
     ];
-    check_steps(&rt, &bench, &away).note("valve 1 stands at 0")?;
-    check_steps(&rt, &bench, &barred).note("valve 1 stands at 1")?;
-    check_steps(&rt, &bench, &free).note("position 1 at neither end, and valve 1")
+    // valve 1 stands at 0
+    check_steps(&rt, &bench, &away)?;
+    // valve 1 stands at 1
+    check_steps(&rt, &bench, &barred)?;
+    // position 1 at neither end, and valve 1
+    check_steps(&rt, &bench, &free)
 }
 
 // At the first and at the last setting of the largest bench, each operation.

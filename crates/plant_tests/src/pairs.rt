@@ -141,5 +141,6 @@ fn too_many_operations(rt: HostRuntime) -> Result<(), Fail> {
     check_steps(&rt, &most, &ends)?;
     let over = Pair::new(most, track_of(2, &[link(0, 1)])?);
     check_too_large(&rt, &over)?;
-    check_size(&rt, &Pair::new(over, ring()?), 5, 5).note("a pair with one that is too large")
+    // a pair with one that is too large
+    check_size(&rt, &Pair::new(over, ring()?), 5, 5)
 }

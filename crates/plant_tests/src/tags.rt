@@ -133,5 +133,6 @@ fn two_layers_of_tags(rt: HostRuntime) -> Result<(), Fail> {
     check_steps(&rt, &above, &[(0, 0, None), (0, 2, None)])?;
     assert!(rt; !above.below().is_tagged(2));
     above.untag(0)?;
-    check_steps(&rt, &above, &[(0, 0, None)]).note("still tagged below")
+    // still tagged below
+    check_steps(&rt, &above, &[(0, 0, None)])
 }
