@@ -6,7 +6,8 @@ usage: python3 tools/respell.py          at the top of the repository, once, aft
 
 A name is ours if a file of specs/ or proofs/ that is no answer file declares it, as a definition, a lemma, a record, a field
 or a constructor. Names that std has too are left where they are imported from std. In .rt files only clauses, ghost items
-and imports are respelled, never code, comments or strings; functions, modules and files keep their names.
+and imports are respelled, never code, comments or strings; functions, modules and files keep their names. What a plant
+means is told by its type in a clause of a function over plants, as P.meaning, where it was told by the name alone.
 """
 import os
 import re
@@ -14,6 +15,7 @@ import sys
 
 MADE = {"Answers.antt", "Invariants.antt", "Choices.antt", "Proof.antt"}
 WORD = re.compile(r"[^\s(){}\[\],;.:\"`]+")
+MEANING = re.compile(r"(?<![.\w])meaning (?=[\w(])(?<!ghost meaning )")
 DECLARED = re.compile(r"^\s*(?:abbrev |unfoldable |opaque |pub )*([^\s(){}\[\],;.:\"`=]+)(?:\s+\([^)]*\))*\s*:")
 RECORD = re.compile(r"^\s*(?:pub )?(?:record|data) (\S+)")
 
@@ -116,6 +118,8 @@ def main():
     for path in list(files(".rt")):
         text = read(path)
         new = turn_source(text, names)
+        if not path.endswith("plant/src/plant.rt"):
+            new = MEANING.sub("P.meaning ", new)
         if new != text:
             with open(path, "w", encoding="utf-8") as f:
                 f.write(new)
