@@ -1,5 +1,5 @@
 -- What is wrong first with a steps body. Assumes nothing.
-use Rattle.std.specs.Prelude.{ℕ, ◌%◌, Bool, cond, not, ◌&&◌, ◌||◌, List, length, take, drop, Some, None, Option, ◌==◌, nat_le, nat_lt, slice_index}
+use Rattle.std.specs.Prelude.{ℕ, ◌%◌, Bool, cond, not, ◌&&◌, List, length, take, drop, Some, None, Option, ◌==◌, nat_le, nat_lt, slice_index}
 use Rattle.numbers.specs.Low.{value}
 use Rattle.bodies.specs.declared.steps.StepsFault.{StepsFault}
 use Rattle.bodies.specs.declared.steps.StepsFault.TheVariants.{Length, Answer, Zero, Count}

@@ -1,10 +1,10 @@
 -- The sheet once all answers are put, and a buffer that is too short already for its head and rows. Assumes nothing.
-use Rattle.std.proofs.Common.{◌≡◌, ℕ, ◌+◌, ◌-◌, ◌*◌, ◌<◌, ◌≤◌, Bool, true, false, cond, ltb, List, [], ◌∷◌, ◌++◌, length, take, drop, is_some, Some, None, Option, sym, refl, ap, ◌∙◌, subst, ⊎_elim, arith, length-append}
+use Rattle.std.proofs.Common.{◌≡◌, ℕ, ◌+◌, ◌*◌, ◌<◌, ◌≤◌, Bool, true, false, cond, ltb, List, ◌++◌, length, drop, is_some, Some, None, Option, sym, ap, ◌∙◌, ⊎_elim, arith, length-append}
 use Rattle.std.proofs.lemmas.List.{drop-drop}
 use Rattle.std.proofs.lemmas.Bool.{cases_lt, le-ltb, false≢true}
 use Rattle.sheet.specs.declared.refusal.SheetRefusal.{SheetRefusal}
 use Rattle.sheet.specs.declared.refusal.SheetRefusal.TheVariants.{Contents, ShortSheet, UnderCount}
-use Rattle.sheet.specs.Steps.{Steps, all_sound}
+use Rattle.sheet.specs.Steps.{Steps}
 use Rattle.sheet.specs.Bytes.{bodies_length, sheet_bytes}
 use Rattle.sheet.specs.States.{State, Written, open_refusal, close_refusal}
 use Rattle.sheet.proofs.Lengths.{length_sheet}

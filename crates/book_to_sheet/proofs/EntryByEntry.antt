@@ -8,7 +8,7 @@ use Rattle.file.specs.Files.{file_bytes, file_fault, entries_of}
 use Rattle.book.proofs.EntryByEntry.{entries_are}
 use Rattle.sheet.specs.Steps.{Steps}
 use Rattle.sheet.specs.Bytes.{body_length, bodies_length}
-use Rattle.book_sheet.specs.Sheets.{put, answers_from, job_count, jobs_in}
+use Rattle.book_sheet.specs.Sheets.{put, answers_from, jobs_in}
 use Rattle.book_sheet.proofs.JobByJob.{count_few}
 use Rattle.book_to_sheet.specs.Entries.{Faultless, parts_of, steps_at, jobs_of, jobs_at}
 

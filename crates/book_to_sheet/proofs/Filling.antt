@@ -1,18 +1,16 @@
 -- The sheet while the answers to a book's jobs are put on it, entry by entry. Assumes nothing.
-use Rattle.std.proofs.Common.{◌≡◌, ℕ, ◌+◌, ◌-◌, ◌*◌, ◌<◌, ◌≤◌, Bool, true, false, cond, ltb, leb, List, [], ◌∷◌, ◌++◌, length, take, drop, is_some, Some, None, Option, sym, refl, ap, ◌∙◌, subst, ⊎_elim, arith}
-use Rattle.std.specs.List.{slice_get}
+use Rattle.std.proofs.Common.{◌≡◌, ℕ, ◌+◌, ◌*◌, ◌<◌, ◌≤◌, Bool, true, false, cond, ltb, List, [], ◌++◌, length, take, drop, is_some, Some, None, Option, sym, refl, ap, ◌∙◌, subst, ⊎_elim, arith}
 use Rattle.std.proofs.lemmas.List.{drop-drop, take_all}
 use Rattle.std.proofs.lemmas.Bool.{cases_lt, lt-leb, le-ltb, false≢true}
 use Rattle.sheet.specs.declared.refusal.SheetRefusal.{SheetRefusal}
 use Rattle.sheet.specs.declared.refusal.SheetRefusal.TheVariants.{OverCount, ShortSheet}
-use Rattle.sheet.specs.Steps.{Steps, steps, keeps_rule, all_sound}
-use Rattle.sheet.specs.Bytes.{body_length, bodies_length, sheet_bytes}
-use Rattle.sheet.specs.States.{State, Written, put_refusal, put_refusal_by}
+use Rattle.sheet.specs.Bytes.{bodies_length}
+use Rattle.sheet.specs.States.{State, Written, put_refusal_by}
 use Rattle.sheet.proofs.Lengths.{length_sheet}
 use Rattle.sheet_reader.proofs.ReadBack.{rule_short, sounds_short}
 use Rattle.file.specs.Parts.{Part}
 use Rattle.book_sheet.specs.Sheets.{put, answers_from, complete}
-use Rattle.book_to_sheet.specs.Entries.{steps_at, numbered_steps}
+use Rattle.book_to_sheet.specs.Entries.{numbered_steps}
 use Rattle.book_to_sheet.specs.Filled.{EntryPut}
 use Rattle.book_to_sheet.proofs.EntryByEntry.{answers_more, among_answers, bodies_together}
 

@@ -1,5 +1,5 @@
 -- The answer of a plan is told as the body that it is. Assumes nothing.
-use Rattle.std.proofs.Common.{◌≡◌, ℕ, ◌≤◌, Bool, true, false, ltb, List, length, take, Some, None, Ok, Err, Option, Result, sym, refl, ap, ◌∙◌, subst, arith}
+use Rattle.std.proofs.Common.{◌≡◌, ℕ, ◌≤◌, Bool, true, false, ltb, List, length, take, Some, None, Ok, Err, Option, Result, sym, ap, ◌∙◌, arith}
 use Rattle.std.proofs.lemmas.List.{length-take}
 use Rattle.std.proofs.lemmas.Bool.{le-leb}
 use Rattle.plant.specs.declared.refusal.Refusal.{Refusal}
@@ -10,8 +10,7 @@ use Rattle.legs.specs.Answers.{Counted, answer, outside, too_high}
 use Rattle.legs.specs.Plans.{planned, plan_legs, plan_list, count, most_need}
 use Rattle.sheet.specs.Steps.{steps, keeps_rule}
 use Rattle.book_sheet.specs.Jobs.{answered}
-use Rattle.book_to_sheet.specs.declared.answer.Answer.{Answer}
-use Rattle.book_to_sheet.specs.Told.{answer_steps, Told}
+use Rattle.book_to_sheet.specs.Told.{Told}
 
 -- a refusal of a plan has a number from 4 to 7
 pub refusal_kept : (out high full : Bool) (x : Option (List ℕ)) (n : ℕ) (e : Refusal) → answer out high full x n ≡ Err e → keeps_rule (answered (Err e)) ≡ true

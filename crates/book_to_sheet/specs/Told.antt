@@ -1,5 +1,5 @@
 -- What an answer of the code says as a steps body. Assumes nothing.
-use Rattle.std.specs.Prelude.{◌≡◌, ℕ, ◌≤◌, true, List, take, Some, None, Option}
+use Rattle.std.specs.Prelude.{◌≡◌, ◌≤◌, true, take, Some, None, Option}
 use Rattle.sheet.specs.Steps.{Steps, steps, keeps_rule}
 use Rattle.book_to_sheet.specs.declared.answer.Answer.{Answer}
 

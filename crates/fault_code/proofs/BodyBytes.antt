@@ -1,19 +1,19 @@
 -- The byte of a body's fault is none past the body's end. Assumes nothing.
-use Rattle.std.proofs.Common.{◌≡◌, ℕ, zero, suc, ◌+◌, ◌-◌, ◌*◌, ◌%◌, ◌<◌, ◌≤◌, Bool, true, false, cond, not, ◌&&◌, ◌||◌, eqb, ltb, leb, List, [], ◌∷◌, length, get_or, take, drop, Some, None, Option, sym, refl, ap, ◌∙◌, arith, length-take}
+use Rattle.std.proofs.Common.{◌≡◌, ℕ, zero, suc, ◌+◌, ◌*◌, ◌%◌, ◌≤◌, Bool, false, cond, not, ◌&&◌, ◌||◌, eqb, ltb, leb, List, [], ◌∷◌, length, get_or, take, drop, Some, None, Option, refl, arith, length-take}
 use Rattle.std.specs.Option.{option_map}
-use Rattle.std.proofs.lemmas.Bool.{cond_both, not-false, eqb-true, and_parts, leb-true, ltb-false}
+use Rattle.std.proofs.lemmas.Bool.{cond_both, not-false, eqb-true, and_parts, leb-true}
 use Rattle.numbers.specs.Low.{value}
 use Rattle.valves.specs.declared.interlock.Interlock.{Interlock}
 use Rattle.valves.specs.declared.fault.BenchFault.{BenchFault}
 use Rattle.valves.specs.declared.fault.BenchFault.TheVariants as bench
 use Rattle.valves.specs.Faults.{either_fault, positions_fault, interlock_fault, interlocks_fault, bench_fault}
 use Rattle.bodies.specs.declared.steps.StepsFault.TheVariants as steps
-use Rattle.bodies.specs.StepsRule.{steps_length, listed, unlisted, fields_fault, steps_fault, steps_byte}
+use Rattle.bodies.specs.StepsRule.{steps_length, listed, unlisted, steps_fault, steps_byte}
 use Rattle.bodies.specs.declared.job.JobFault.TheVariants as job
 use Rattle.bodies.specs.JobRule.{job_fault, job_byte}
 use Rattle.plant_bodies.specs.declared.bench_body.ValvesFault.TheVariants as valves
 use Rattle.plant_bodies.specs.declared.bench_body.ValvesFault.TheVariants.{Bench}
-use Rattle.plant_bodies.specs.BenchRule.{interlocks_in, valves_in, interlock_count, body_positions, body_interlocks, bench_byte, valves_fault, valves_byte}
+use Rattle.plant_bodies.specs.BenchRule.{valves_in, interlock_count, body_positions, body_interlocks, bench_byte, valves_fault, valves_byte}
 use Rattle.plant_bodies.specs.declared.track_body.TrackFault.{TrackFault}
 use Rattle.plant_bodies.specs.declared.track_body.TrackFault.TheVariants as tracks
 use Rattle.plant_bodies.specs.TrackRule as track

@@ -1,5 +1,5 @@
 -- The byte of a fault that a reader gives has 16 bits. Assumes nothing.
-use Rattle.std.proofs.Common.{◌≡◌, ℕ, zero, suc, ◌+◌, ◌-◌, ◌*◌, ◌<◌, ◌≤◌, Bool, true, false, cond, not, eqb, ltb, ◌⊎◌, List, [], ◌∷◌, length, get_or, take, drop, Some, None, Option, sym, refl, ap, ◌∙◌, inl, inr, arith, length-take}
+use Rattle.std.proofs.Common.{◌≡◌, ℕ, zero, suc, ◌+◌, ◌*◌, ◌≤◌, cond, not, eqb, ltb, List, length, get_or, take, drop, Some, None, Option, refl, arith, length-take}
 use Rattle.std.specs.Option.{option_map}
 use Rattle.std.proofs.lemmas.Bool.{cond_both, ltb-true, ltb-false}
 use Rattle.faults.specs.declared.fault.BodyFault.{BodyFault}
@@ -18,8 +18,8 @@ use Rattle.file.specs.declared.kind.Kind.TheVariants.{Valves, Track, Job, Steps}
 use Rattle.file.specs.declared.kind.Reader.{Reader}
 use Rattle.file.specs.Kinds.{kind_of, takes}
 use Rattle.file.specs.Contents.{row_kind, row_zero, row_length, rows_fault, rows_length}
-use Rattle.file.specs.Parts.{Part, part, parts_from, plant_before, kind_fault, first_fault, parts_fault}
-use Rattle.file.specs.Read.{entries, rows, contents_end, told_length, parts, bodies_fault, contents_then, head_fault, length_fault, or_else, read_fault}
+use Rattle.file.specs.Parts.{parts_from, plant_before, kind_fault, first_fault, parts_fault}
+use Rattle.file.specs.Read.{entries, rows, contents_end, told_length, bodies_fault, contents_then, head_fault, length_fault, or_else, read_fault}
 use Rattle.file.proofs.Acceptance.{head_numbers, length_numbers}
 use Rattle.fault_code.specs.Codes.{ByteFits}
 use Rattle.fault_code.proofs.BodyBytes.{AtMost, at_none, at_some, steps_within, job_within, valves_within, track_within}

@@ -1,7 +1,7 @@
 -- What a file without a fault meets. Assumes nothing.
-use Rattle.std.proofs.Common.{◌≡◌, ℕ, zero, suc, ◌+◌, ◌-◌, ◌*◌, ◌<◌, ◌≤◌, Bool, true, false, cond, not, ◌&&◌, eqb, ltb, ◌⊎◌, List, [], ◌∷◌, length, get_or, take, drop, is_some, Some, None, Option, sym, refl, ap, ◌∙◌, inl, inr, arith, length-drop}
+use Rattle.std.proofs.Common.{◌≡◌, ℕ, zero, suc, ◌+◌, ◌-◌, ◌*◌, ◌≤◌, Bool, true, false, cond, not, eqb, ltb, List, length, get_or, drop, is_some, Some, None, Option, sym, refl, ap, ◌∙◌, arith, length-drop}
 use Rattle.std.specs.Option.{option_map}
-use Rattle.std.proofs.lemmas.Bool.{and_from, cases_Bool, eqb-true, false≢true, true≢false}
+use Rattle.std.proofs.lemmas.Bool.{and_from, eqb-true, true≢false}
 use Rattle.std.proofs.lemmas.Bool.Decides.{nat_tests}
 use Rattle.faults.specs.declared.fault.BodyFault.{BodyFault}
 use Rattle.faults.specs.declared.fault.ContentsFault.{ContentsFault}
@@ -9,11 +9,10 @@ use Rattle.faults.specs.declared.fault.ContentsFault.TheVariants as contents
 use Rattle.faults.specs.declared.fault.FileFault.{FileFault}
 use Rattle.faults.specs.declared.fault.FileFault.TheVariants.{TooShort, TooLong, Contents, Body}
 use Rattle.file.specs.declared.kind.Reader.{Reader}
-use Rattle.file.specs.declared.kind.Reader.TheVariants.{AllKinds, StepsAlone}
 use Rattle.file.specs.Kinds.{kind_of, takes, takes_kind}
-use Rattle.file.specs.Contents.{row_kind, row_zero, row_length, rows_fault, rows_length, known_rows}
+use Rattle.file.specs.Contents.{row_kind, row_zero, rows_fault, rows_length, known_rows}
 use Rattle.file.proofs.CheckByCheck.{behind_head, behind_head_rows, told_by}
-use Rattle.file.specs.Read.{entries, rows, contents_end, told_length, bodies_fault, contents_then, head_fault, length_fault, or_else, read_fault}
+use Rattle.file.specs.Read.{entries, rows, told_length, bodies_fault, contents_then, head_fault, length_fault, or_else, read_fault}
 
 -- no fault at all is none of either
 pub neither : (o g : Option FileFault) → or_else o g ≡ None → (o ≡ None) × (g ≡ None)

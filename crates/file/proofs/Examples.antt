@@ -1,12 +1,12 @@
 -- A book of a bench and a job, read: bench A (positions 3 and 2, interlock 0, 2, 1, 0) and a job on it, from 0 to 2 with bound 4.
 -- And small files with a fault each. Assumes nothing.
-use Rattle.std.proofs.Common.{◌≡◌, ℕ, List, [], ◌∷◌, Some, None, Ok, Err, refl}
+use Rattle.std.proofs.Common.{◌≡◌, ℕ, List, [], ◌∷◌, Some, Ok, Err, refl}
 use Rattle.bodies.specs.JobRule.{job_of}
 use Rattle.plant_bodies.specs.BenchRule.{body_positions, body_interlocks}
 use Rattle.faults.specs.declared.fault.ContentsFault.TheVariants as contents
 use Rattle.faults.specs.declared.fault.FileFault.TheVariants.{TooShort, TooLong, Contents}
 use Rattle.file.specs.declared.kind.Reader.TheVariants.{AllKinds, StepsAlone}
-use Rattle.file.specs.Parts.{Part, part}
+use Rattle.file.specs.Parts.{part}
 use Rattle.file.specs.Read.{read}
 
 abbrev bench_body : List ℕ

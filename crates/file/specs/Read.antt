@@ -1,5 +1,5 @@
 -- Which file is accepted, as which entries, and which fault is given otherwise. Assumes nothing.
-use Rattle.std.specs.Prelude.{ℕ, zero, suc, ◌+◌, ◌*◌, Bool, cond, not, List, [], ◌∷◌, length, drop, Some, None, Ok, Err, Option, Result, ◌==◌, nat_lt, slice_index}
+use Rattle.std.specs.Prelude.{ℕ, ◌+◌, ◌*◌, cond, not, List, length, drop, Some, None, Ok, Err, Option, Result, ◌==◌, nat_lt, slice_index}
 use Rattle.std.specs.Option.{option_map}
 use Rattle.faults.specs.declared.fault.BodyFault.{BodyFault}
 use Rattle.faults.specs.declared.fault.ContentsFault.{ContentsFault}

@@ -3,7 +3,7 @@ use Rattle.std.specs.Prelude.{◌≡◌, ℕ, Ok, Err, Result}
 use Rattle.plant.specs.Meaning.{Meaning}
 use Rattle.plant.specs.declared.refusal.Refusal.{Refusal}
 use Rattle.legs.specs.Layers.{Leg}
-use Rattle.legs.specs.Answers.{Counted, measured}
+use Rattle.legs.specs.Answers.{measured}
 use Rattle.measure.specs.declared.Measured.{Measured}
 
 -- the answer that the leg has by its definition

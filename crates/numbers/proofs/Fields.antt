@@ -1,5 +1,5 @@
 -- A number in a field of a list of bytes, byte by byte. Assumes nothing.
-use Rattle.std.proofs.Common.{◌≡◌, ℕ, zero, suc, ◌+◌, ◌*◌, ◌≤◌, List, [], ◌∷◌, length, get_or, take, drop, sym, refl, ap, ◌∙◌, arith, take_all}
+use Rattle.std.proofs.Common.{◌≡◌, ℕ, zero, suc, ◌+◌, ◌*◌, List, [], ◌∷◌, length, get_or, take, drop, refl, ap, arith, take_all}
 use Rattle.numbers.specs.Low.{value}
 
 pub value_take_nil : (k : ℕ) → value (take k []) ≡ 0

@@ -1,15 +1,15 @@
 -- A fetch by halves writes the earliest list and counts its legs, and finds out where a leg needs more records. Over any
 -- lawful meaning.
-use Rattle.std.proofs.Common.{◌≡◌, ℕ, zero, suc, ◌+◌, ◌-◌, ◌*◌, ◌/◌, ◌<◌, ◌≤◌, max, List, [], ◌∷◌, ◌++◌, length, set, Some, None, Ok, Err, sym, refl, ap, ◌∙◌, subst, ⊎_elim, arith}
+use Rattle.std.proofs.Common.{◌≡◌, ℕ, ◌+◌, ◌-◌, ◌/◌, ◌<◌, ◌≤◌, List, [], ◌∷◌, ◌++◌, length, set, Some, None, Ok, Err, sym, refl, ap, ◌∙◌, subst, ⊎_elim, arith}
 use Rattle.std.proofs.lemmas.List.{nil_from_length}
 use Rattle.std.proofs.lemmas.Bool.{cases_lt}
 use Rattle.plant.specs.Meaning.{Meaning, Steps, Leads}
 use Rattle.plant.specs.Laws.{Lawful}
 use Rattle.plant.specs.declared.refusal.Refusal.{Refusal}
 use Rattle.legs.specs.declared.relayed.Relayed.{Relayed}
-use Rattle.legs.specs.Layers.{Leg, In, layer}
+use Rattle.legs.specs.Layers.{In, layer}
 use Rattle.legs.specs.Legs.{expanded, need}
-use Rattle.legs.specs.Lists.{Linked, Distance, earliest}
+use Rattle.legs.specs.Lists.{Distance, earliest}
 use Rattle.legs.specs.Relays.{relays}
 use Rattle.legs.specs.Answers.{Counted, measured}
 use Rattle.legs.specs.Plans.{halfway, fetch_leg, fetch_legs, count, most_need}

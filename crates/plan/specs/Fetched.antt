@@ -1,5 +1,5 @@
 -- What a fetch answers. Assumes nothing.
-use Rattle.std.specs.Prelude.{◌≡◌, ℕ, ◌+◌, ◌-◌, ◌*◌, ◌<◌, ◌≤◌, List, Some, None, Option}
+use Rattle.std.specs.Prelude.{◌≡◌, ℕ, ◌-◌, ◌*◌, ◌<◌, ◌≤◌, List, Some, None, Option}
 use Rattle.plant.specs.Meaning.{Meaning}
 use Rattle.legs.specs.Lists.{earliest}
 use Rattle.legs.specs.Plans.{fetch_legs, count, most_need}

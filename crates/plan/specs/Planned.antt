@@ -1,9 +1,8 @@
 -- What a plan answers, and what it writes. Assumes nothing.
-use Rattle.std.specs.Prelude.{◌≡◌, ℕ, ◌-◌, ◌≤◌, List, ◌++◌, length, take, replicate, Ok, Err, Result}
+use Rattle.std.specs.Prelude.{◌≡◌, ℕ, ◌-◌, ◌≤◌, List, ◌++◌, take, replicate, Ok, Err, Result}
 use Rattle.plant.specs.Meaning.{Meaning}
 use Rattle.plant.specs.declared.refusal.Refusal.{Refusal}
 use Rattle.legs.specs.Layers.{Leg}
-use Rattle.legs.specs.Answers.{Counted}
 use Rattle.legs.specs.Plans.{planned}
 use Rattle.plan.specs.declared.planning.Planned.{Planned}
 

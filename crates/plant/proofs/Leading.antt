@@ -1,7 +1,7 @@
 -- What is worked out of a list is where it leads, and one operation more. Assumes nothing.
-use Rattle.std.proofs.Common.{◌≡◌, ℕ, ◌+◌, ◌<◌, ◌≤◌, ◌↔◌, List, [], ◌∷◌, length, get_or, drop, Some, None, Option, sym, refl, ap, ◌∙◌, arith}
+use Rattle.std.proofs.Common.{◌≡◌, ℕ, ◌+◌, ◌<◌, ◌≤◌, List, [], ◌∷◌, length, get_or, drop, Some, None, Option, refl, ap, ◌∙◌, arith}
 use Rattle.std.proofs.lemmas.List.{drop_more, drop_all}
-use Rattle.plant.specs.Meaning.{Meaning, Steps, Leads}
+use Rattle.plant.specs.Meaning.{Meaning, Leads}
 use Rattle.plant.specs.Follow.{on_from, after}
 
 -- a step went somewhere if what follows it did

@@ -1,5 +1,5 @@
 -- What a plant means, and where a list of operations leads. Assumes nothing.
-use Rattle.std.specs.Prelude.{◌≡◌, ℕ, List, [], ◌∷◌, Some, None, Option}
+use Rattle.std.specs.Prelude.{◌≡◌, ℕ, List, [], ◌∷◌, Some, Option}
 
 pub record Meaning : Type 0 where
   -- how many settings there are, and how many operations

@@ -1,5 +1,5 @@
 -- The checks of a bench's body in their order. Assumes nothing.
-use Rattle.std.proofs.Common.{◌≡◌, ℕ, suc, ◌+◌, ◌-◌, ◌*◌, ◌<◌, ◌≤◌, true, false, cond, not, ◌||◌, eqb, ltb, List, [], ◌∷◌, length, get_or, take, drop, Some, None, Option, sym, refl, ap, ◌∙◌, arith, length-drop, take_all}
+use Rattle.std.proofs.Common.{◌≡◌, ℕ, ◌+◌, ◌-◌, ◌*◌, ◌<◌, ◌≤◌, true, false, cond, not, ◌||◌, ltb, List, length, take, drop, Some, None, Option, sym, ap, ◌∙◌, arith, length-drop, take_all}
 use Rattle.std.specs.Option.{option_map}
 use Rattle.std.proofs.lemmas.List.{take_rest, drop-drop}
 use Rattle.std.proofs.lemmas.Bool.{lt-ltb, le-ltb, or_from, eq-eqb}
@@ -7,7 +7,6 @@ use Rattle.valves.specs.declared.interlock.Interlock.{Interlock}
 use Rattle.valves.specs.declared.fault.BenchFault.{BenchFault}
 use Rattle.valves.specs.declared.fault.BenchFault.TheVariants as bench
 use Rattle.valves.specs.Faults.{either_fault, positions_fault, interlocks_fault, bench_fault}
-use Rattle.plant_bodies.specs.declared.bench_body.ValvesFault.{ValvesFault}
 use Rattle.plant_bodies.specs.declared.bench_body.ValvesFault.TheVariants.{Length, Bench}
 use Rattle.plant_bodies.specs.BenchRule.{interlocks_in, valves_in, interlock_count, body_positions, body_interlocks, valves_fault}
 use Rattle.plant_bodies.proofs.Interlocks.{length_interlocks}

@@ -1,5 +1,5 @@
 -- The links of a body, one by one. Assumes nothing.
-use Rattle.std.proofs.Common.{◌≡◌, ℕ, zero, suc, ◌+◌, ◌-◌, ◌<◌, List, [], ◌∷◌, length, take, drop, Some, None, Option, sym, refl, ap, ◌∙◌, add-one}
+use Rattle.std.proofs.Common.{◌≡◌, ℕ, suc, ◌+◌, ◌-◌, ◌<◌, List, length, take, drop, Some, None, Option, sym, ap, ◌∙◌, add-one}
 use Rattle.std.proofs.lemmas.List.{take_rest}
 use Rattle.plant_bodies.specs.declared.track_body.TrackFault.{TrackFault}
 use Rattle.plant_bodies.specs.TrackRule.{Link, joins, link, links_in, link_fault, either_fault, links_fault}

@@ -1,10 +1,10 @@
 -- The checks of a track's body in their order. Assumes nothing.
-use Rattle.std.proofs.Common.{◌≡◌, ℕ, ◌+◌, ◌-◌, ◌*◌, ◌<◌, ◌≤◌, true, false, cond, not, ◌||◌, eqb, ltb, List, length, take, drop, Some, None, Option, sym, refl, ap, ◌∙◌}
+use Rattle.std.proofs.Common.{◌≡◌, ℕ, ◌+◌, ◌-◌, ◌*◌, ◌≤◌, false, cond, not, ◌||◌, eqb, ltb, List, length, take, drop, Some, Option, sym, ap, ◌∙◌}
 use Rattle.std.proofs.lemmas.List.{take_rest}
 use Rattle.std.proofs.lemmas.Bool.{le-ltb, or_from, eq-eqb}
 use Rattle.plant_bodies.specs.declared.track_body.TrackFault.{TrackFault}
 use Rattle.plant_bodies.specs.declared.track_body.TrackFault.TheVariants.{Length, Stations, Links}
-use Rattle.plant_bodies.specs.TrackRule.{links_in, links_fault, stations_in, link_count, body_links, track_fault}
+use Rattle.plant_bodies.specs.TrackRule.{links_in, links_fault, stations_in, link_count, track_fault}
 
 -- the checks of a body with these counts
 checks : ℕ → ℕ → ℕ → Option TrackFault → Option TrackFault

@@ -1,12 +1,12 @@
 -- Interlocks and links by their number. Assumes nothing.
-use Rattle.std.proofs.Common.{◌≡◌, ℕ, zero, suc, ◌+◌, ◌-◌, ◌*◌, ◌<◌, ◌≤◌, List, [], ◌∷◌, length, get_or, take, drop, Some, None, sym, refl, ap, ◌∙◌, add-zero, arith, length-drop, take_all}
+use Rattle.std.proofs.Common.{◌≡◌, ℕ, zero, suc, ◌+◌, ◌-◌, ◌*◌, ◌<◌, ◌≤◌, List, [], ◌∷◌, length, get_or, take, drop, Some, None, sym, refl, ap, ◌∙◌, arith, take_all}
 use Rattle.std.specs.List.{slice_get}
 use Rattle.std.proofs.lemmas.List.{get_or-drop, drop-drop, drop_all, take_rest}
 use Rattle.numbers.specs.Low.{value}
 use Rattle.numbers.proofs.Fields.{field_2}
 use Rattle.valves.specs.declared.interlock.Interlock.{Interlock}
 use Rattle.plant_bodies.specs.BenchRule.{interlock, interlocks_in}
-use Rattle.plant_bodies.specs.TrackRule.{Link, joins, link, links_in}
+use Rattle.plant_bodies.specs.TrackRule.{joins, link, links_in}
 
 -- four bytes further for each one before
 further : (i : ℕ) (rs : List ℕ) → drop (4 * i) (drop 4 rs) ≡ drop (4 * suc i) rs

@@ -1,5 +1,5 @@
 -- What each accepted call makes of the list that is read from the calls. Assumes nothing.
-use Rattle.std.proofs.Common.{◌≡◌, ℕ, zero, suc, Bool, true, false, cond, ◌↔◌, List, [], ◌∷◌, drop, Some, None, Option, sym, refl, ap, ◌∙◌, subst, arith}
+use Rattle.std.proofs.Common.{◌≡◌, ℕ, zero, suc, Bool, true, false, cond, ◌↔◌, List, [], ◌∷◌, drop, Some, None, Option, sym, refl, ap, ◌∙◌, subst}
 use Rattle.plant.specs.Meaning.{Meaning}
 use Rattle.legs.proofs.Earliest.{some_none}
 use Rattle.promise.specs.Calls.{Call, tag, done}

@@ -1,6 +1,6 @@
 -- A plan in range, with records for the need of each leg, is answered rightly. Over any lawful meaning.
-use Rattle.std.proofs.Common.{◌≡◌, ℕ, ◌<◌, ◌≤◌, Bool, true, false, ltb, ◌⊎◌, ◌↔◌, List, length, Some, None, Ok, Err, Option, Result, sym, refl, subst, ⊎_elim, arith}
-use Rattle.plant.specs.Meaning.{Meaning, Leads}
+use Rattle.std.proofs.Common.{◌≡◌, ℕ, Bool, true, false, ltb, ◌↔◌, List, length, Some, None, Ok, Err, Option, Result, sym, refl, subst, ⊎_elim, arith}
+use Rattle.plant.specs.Meaning.{Meaning}
 use Rattle.plant.specs.Laws.{Lawful}
 use Rattle.plant.specs.declared.refusal.Refusal.{Refusal}
 use Rattle.plant.specs.declared.refusal.Refusal.TheVariants.{NoSuchOperation, TaggedAlready, Untagged, NoSuchSetting, Bound, Overfull, OutOfReach, NoList, WrongOperation}
@@ -9,7 +9,7 @@ use Rattle.legs.specs.Answers.{Counted, answer, outside, too_high}
 use Rattle.legs.specs.Plans.{plan_legs, plan_list, most_need, count, planned}
 use Rattle.legs.specs.PlanLaws.{InRange, Unreached, Plans}
 use Rattle.legs.proofs.PlanLaws.{plans_lawful}
-use Rattle.promise.specs.Promise.{Best, LiesOutOfReach, RightPlan, Enough}
+use Rattle.promise.specs.Promise.{LiesOutOfReach, RightPlan, Enough}
 use Rattle.promise.proofs.Best.{best_from}
 
 -- the answers that a search can give, with what was found

@@ -1,16 +1,14 @@
 -- The promise holds over all calls from the making on, and each call keeps it. Over any lawful meaning.
-use Rattle.std.proofs.Common.{◌≡◌, ℕ, ◌<◌, ◌≤◌, ◌↔◌, List, [], ◌∷◌, Some, None, Ok, Err, Option, Result, sym, refl, ap, ◌∙◌, subst}
+use Rattle.std.proofs.Common.{◌≡◌, ℕ, ◌<◌, ◌≤◌, List, [], ◌∷◌, Some, None, Option, sym, refl, ap, ◌∙◌, subst}
 use Rattle.plant.specs.Meaning.{Meaning}
 use Rattle.plant.specs.Laws.{Lawful}
 use Rattle.plant.specs.declared.refusal.Refusal.{Refusal}
 use Rattle.tagged.specs.Meaning.{tagged}
 use Rattle.tagged.specs.Laws.{tagged_lawful}
-use Rattle.legs.specs.Layers.{Leg}
-use Rattle.legs.specs.Answers.{Counted}
 use Rattle.legs.specs.Plans.{planned}
 use Rattle.legs.specs.PlanLaws.{InRange}
 use Rattle.promise.specs.Calls.{Call, accepted_first, accepted}
-use Rattle.promise.specs.Readings.{Work, setting_of, untagged_plant, leg_of}
+use Rattle.promise.specs.Readings.{untagged_plant, leg_of}
 use Rattle.promise.specs.States.{State, asked, refusal, effect, unless_refused, next, after_calls, history}
 use Rattle.promise.specs.Promise.{Best, Answered, Enough, Holds, PromiseKept, KeepsOn}
 use Rattle.promise.proofs.Since.{tagged_since, since_tagged}

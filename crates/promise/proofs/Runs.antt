@@ -1,5 +1,5 @@
 -- What every call keeps of a sequencer's state and of what is read from the accepted calls. Over any lawful meaning.
-use Rattle.std.proofs.Common.{◌≡◌, ℕ, ◌<◌, ◌≤◌, true, false, not, ◌&&◌, ◌||◌, ◌↔◌, List, [], ◌∷◌, length, Some, None, Ok, Err, Option, sym, refl, ap, ◌∙◌, subst, arith}
+use Rattle.std.proofs.Common.{◌≡◌, ℕ, ◌<◌, true, false, not, ◌&&◌, ◌||◌, ◌↔◌, List, [], ◌∷◌, length, Some, None, Ok, Option, sym, refl, ap, ◌∙◌, subst}
 use mathlib.Core.Path.{fun_ext}
 use Rattle.std.proofs.lemmas.List.{length-replicate}
 use Rattle.plant.specs.Meaning.{Meaning, Steps}
@@ -11,10 +11,10 @@ use Rattle.tagged.specs.Laws.{tagged_lawful, untagged_steps}
 use Rattle.legs.specs.Layers.{Leg}
 use Rattle.legs.specs.Lists.{landing}
 use Rattle.legs.specs.Answers.{Counted}
-use Rattle.legs.specs.Plans.{plan_list, planned}
+use Rattle.legs.specs.Plans.{plan_list}
 use Rattle.legs.proofs.Earliest.{some_none}
 use Rattle.promise.specs.Calls.{Call, tag, untag, plan, done, drop_list, hand_move}
-use Rattle.promise.specs.Readings.{Work, Asked, setting_of, tagged_in, without, untagged_plant, leg_of, last_plan, since_plan, or_empty, planned_list, LeftOf, InHand}
+use Rattle.promise.specs.Readings.{Work, Asked, setting_of, tagged_in, without, untagged_plant, last_plan, since_plan, or_empty, planned_list, LeftOf, InHand}
 use Rattle.promise.specs.States.{State, fresh, asked, replaced, behind_first, moved_on, refusal, effect}
 use Rattle.promise.specs.Promise.{Best}
 use Rattle.promise.proofs.Best.{best_behind}

@@ -1,6 +1,6 @@
 -- An operation is read as tagged exactly where a tag covered it and no untag has since. Assumes nothing.
-use Rattle.std.proofs.Common.{◌≡◌, ℕ, true, false, not, ◌&&◌, List, [], ◌∷◌, ◌++◌, sym, refl, ap, ◌∙◌, ⊎_elim}
-use Rattle.std.proofs.lemmas.Bool.{false≢true, cases_Bool, and_parts, and_from, or_left, or_right, or_cases, not-true, not_from_false}
+use Rattle.std.proofs.Common.{◌≡◌, ℕ, true, not, List, [], ◌∷◌, ◌++◌, refl, ap, ◌∙◌, ⊎_elim}
+use Rattle.std.proofs.lemmas.Bool.{false≢true, and_parts, and_from, or_left, or_right, or_cases, not-true, not_from_false}
 use Rattle.plant.specs.Meaning.{Meaning}
 use Rattle.tagged.specs.Tags.{covers}
 use Rattle.promise.specs.Calls.{Call, tag, untag, plan, done, drop_list, hand_move}

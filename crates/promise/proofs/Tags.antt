@@ -1,8 +1,8 @@
 -- What a tag or an untag makes of the tags that are read from the calls, and of a list that a tag spares. Over any lawful meaning.
-use Rattle.std.proofs.Common.{◌≡◌, ℕ, ◌<◌, Bool, true, false, cond, not, ◌&&◌, ◌||◌, List, [], ◌∷◌, length, set, refl, ap, ◌∙◌, arith}
+use Rattle.std.proofs.Common.{◌≡◌, ℕ, ◌<◌, Bool, true, false, cond, not, ◌&&◌, ◌||◌, List, [], ◌∷◌, length, set, refl, ap, ◌∙◌}
 use Rattle.std.proofs.lemmas.List.{length-set}
-use Rattle.std.proofs.lemmas.Bool.{or_parts, cond-false}
-use Rattle.plant.specs.Meaning.{Meaning, Leads}
+use Rattle.std.proofs.lemmas.Bool.{or_parts}
+use Rattle.plant.specs.Meaning.{Meaning}
 use Rattle.plant.specs.Laws.{Lawful}
 use Rattle.tagged.specs.Tags.{bears, covers, cover}
 use Rattle.tagged.specs.Meaning.{tagged}

@@ -11,7 +11,7 @@ use Rattle.legs.specs.Answers.{Counted}
 use Rattle.legs.specs.Plans.{plan_legs, count}
 use Rattle.promise.specs.Calls.{Call, accepted}
 use Rattle.promise.specs.Readings.{Work, setting_of, tagged_in, TaggedSince, untagged_plant, leg_of, InHand}
-use Rattle.promise.specs.States.{State, asked, next, after_calls, history}
+use Rattle.promise.specs.States.{State, asked, after_calls, history}
 
 -- the list leads from s to t; every other that does has at least as many operations, and those with as many come later
 pub record Best (m : Meaning) (s t : ℕ) (os : List ℕ) : Type 0 where

@@ -1,5 +1,5 @@
 -- What the accepted calls alone, the newest first, tell of the setting, the tags and the list in hand. Assumes nothing.
-use Rattle.std.specs.Prelude.{◌≡◌, ℕ, zero, suc, Bool, true, false, cond, not, ◌&&◌, ◌||◌, List, [], ◌∷◌, ◌++◌, drop, Some, None, Option}
+use Rattle.std.specs.Prelude.{◌≡◌, ℕ, suc, Bool, true, false, cond, not, ◌&&◌, ◌||◌, List, [], ◌∷◌, ◌++◌, drop, Some, None, Option}
 use Rattle.plant.specs.Meaning.{Meaning}
 use Rattle.tagged.specs.Tags.{covers}
 use Rattle.legs.specs.Layers.{Leg}

@@ -5,7 +5,6 @@ use Rattle.plant.specs.declared.refusal.Refusal.{Refusal}
 use Rattle.plant.specs.declared.refusal.Refusal.TheVariants.{NoSuchSetting, NoList, WrongOperation}
 use Rattle.tagged.specs.Tags.{untagged, cover, tag_refusal, untag_refusal}
 use Rattle.tagged.specs.Meaning.{tagged}
-use Rattle.legs.specs.Layers.{Leg}
 use Rattle.legs.specs.Lists.{landing}
 use Rattle.legs.specs.Answers.{Counted}
 use Rattle.legs.specs.Plans.{planned}

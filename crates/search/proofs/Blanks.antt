@@ -1,5 +1,5 @@
 -- Records made blank one after another, and a record read at the place where its setting was found. Assumes nothing.
-use Rattle.std.proofs.Common.{◌≡◌, ℕ, zero, suc, ◌+◌, ◌-◌, ◌<◌, ◌≤◌, List, [], ◌∷◌, ◌++◌, map, length, get_or, drop, set, replicate, sym, refl, ap, ◌∙◌, subst, arith}
+use Rattle.std.proofs.Common.{◌≡◌, ℕ, ◌+◌, ◌-◌, ◌<◌, List, [], ◌∷◌, ◌++◌, map, length, get_or, drop, set, replicate, sym, ap, ◌∙◌, subst, arith}
 use lib.ListN.{length-replicate, length-map}
 use Rattle.std.proofs.lemmas.List.{append_assoc, drop_more, set-append_right, replicate_more, get_or-map}
 use Rattle.legs.specs.Layers.{In}

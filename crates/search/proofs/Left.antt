@@ -1,5 +1,5 @@
 -- What a search leaves: zero, and the records as they were where the call is refused before it. Assumes nothing.
-use Rattle.std.proofs.Common.{◌≡◌, ℕ, ◌-◌, min, Bool, true, false, cond, ◌||◌, List, [], ◌++◌, length, drop, replicate, Some, None, Ok, Err, Option, Result, sym, refl, ap, ◌∙◌, arith, length-append, length-drop}
+use Rattle.std.proofs.Common.{◌≡◌, ℕ, min, Bool, true, false, cond, ◌||◌, List, length, drop, replicate, Some, None, Ok, Err, Option, refl, ap, ◌∙◌, arith, length-append, length-drop}
 use lib.ListN.{length-replicate}
 use Rattle.std.proofs.lemmas.Bool.{cond-true}
 use Rattle.plant.specs.Meaning.{Meaning}

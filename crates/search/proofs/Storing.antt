@@ -1,11 +1,11 @@
 -- What becomes of an arrival: turned away, taken in, or without a place. Assumes nothing.
-use Rattle.std.proofs.Common.{◌≡◌, ℕ, ◌+◌, ◌≤◌, Bool, true, false, cond, not, ◌||◌, List, [], ◌∷◌, ◌++◌, map, length, Some, sym, refl, ap, ◌∙◌, subst, arith}
+use Rattle.std.proofs.Common.{◌≡◌, ℕ, Bool, true, false, not, List, [], ◌∷◌, ◌++◌, map, length, Some, sym, refl, ap, ◌∙◌, arith}
 use Rattle.std.proofs.lemmas.List.{append-nil}
 use Rattle.std.proofs.lemmas.Bool.{cond-true, cond-false, or_left, or_right, or_from, not_from_true, not_from_false}
 use Rattle.plant.specs.Meaning.{Meaning}
 use Rattle.legs.specs.Layers.{Leg, has, fits}
 use Rattle.search.specs.declared.store.Store.{Store}
-use Rattle.search.specs.Stored.{room_of, standing, Ready, Kept, Pushed}
+use Rattle.search.specs.Stored.{standing, Ready, Kept, Pushed}
 use Rattle.search.specs.Offered.{turned_away, arriving, Taken}
 
 module _ {R : Type 0} (tells : R → ℕ) (Follows : List ℕ → Type 0) (s : Store R) where

@@ -1,20 +1,20 @@
 -- The turns of a search: one operation more fills the next layer as the leg's definition does, and a place is refused
 -- exactly where the layers that stand are more than the slice holds. Over any lawful meaning.
-use Rattle.std.proofs.Common.{◌≡◌, ℕ, zero, suc, ◌+◌, ◌-◌, ◌<◌, ◌≤◌, Bool, true, false, cond, not, ◌||◌, List, [], ◌∷◌, ◌++◌, map, length, get_or, take, drop, Some, None, Option, sym, refl, ap, ◌∙◌, subst, add-one, arith}
+use Rattle.std.proofs.Common.{◌≡◌, ℕ, suc, ◌+◌, ◌-◌, ◌<◌, ◌≤◌, true, false, cond, not, ◌||◌, List, [], ◌∷◌, ◌++◌, map, length, get_or, take, drop, Some, None, Option, sym, refl, ap, ◌∙◌, subst, arith}
 use Rattle.std.proofs.lemmas.List.{append-nil, append_assoc, length-append, take-append-drop, drop_more, take_more, get_or-append_right, get_or_append_left, get_or-take, drop-drop}
-use Rattle.plant.specs.Meaning.{Meaning, Steps}
+use Rattle.plant.specs.Meaning.{Meaning}
 use Rattle.plant.specs.Laws.{Lawful}
 use Rattle.legs.specs.Kinds.{Kind, Tells}
 use Rattle.legs.specs.Layers.{Leg, has, fits, In, layer, layer_before}
 use Rattle.legs.specs.Legs.{room}
-use Rattle.legs.specs.Filling.{filled, filled_more}
-use Rattle.legs.proofs.Filling.{filled_starts, filled_ends, filled_passes, filled_steps, filled_length}
+use Rattle.legs.specs.Filling.{filled_more}
+use Rattle.legs.proofs.Filling.{filled_passes, filled_steps, filled_length}
 use Rattle.legs.proofs.Members.{in_getD}
 use Rattle.legs.proofs.Need.{room_layers}
 use Rattle.search.specs.declared.store.Store.{Store}
-use Rattle.search.specs.Stored.{room_of, count, standing, Ready, Kept}
-use Rattle.search.specs.Offered.{turned_away, arriving, Taken}
-use Rattle.search.specs.Stands.{Stands, filled_by, Expanded}
+use Rattle.search.specs.Stored.{room_of, count, standing, Kept}
+use Rattle.search.specs.Offered.{arriving, Taken}
+use Rattle.search.specs.Stands.{Stands}
 
 -- what is the same from one place on is the same from any later place on
 pub drop_further : {X : Type 0} (i j : ℕ) (xs ys : List X) → i ≤ j → drop i xs ≡ drop i ys → drop j xs ≡ drop j ys

@@ -1,13 +1,13 @@
 -- A leg walked layer by layer ends where it is defined to end, having expanded and used what it is defined to expand and
 -- need. Over any lawful meaning.
-use Rattle.std.proofs.Common.{◌≡◌, ℕ, zero, suc, ◌+◌, ◌-◌, ◌<◌, ◌≤◌, max, Bool, true, false, ◌||◌, eqb, List, [], ◌∷◌, ◌++◌, map, length, take, drop, Some, None, Option, sym, refl, ap, ◌∙◌, subst, ⊎_elim, add-one, arith}
+use Rattle.std.proofs.Common.{◌≡◌, ℕ, suc, ◌+◌, ◌<◌, ◌≤◌, max, true, false, ◌||◌, eqb, List, [], ◌∷◌, ◌++◌, map, length, take, drop, Some, None, Option, sym, refl, ap, ◌∙◌, subst, ⊎_elim, arith}
 use Rattle.std.proofs.lemmas.List.{append-nil, take_at, take-take, drop_at, drop-take}
-use Rattle.std.proofs.lemmas.Bool.{cases_lt, or_parts, eqb-false, eq-eqb, ne_eqb}
+use Rattle.std.proofs.lemmas.Bool.{cases_lt, or_parts, eqb-false, ne_eqb}
 use Rattle.plant.specs.Meaning.{Meaning}
 use Rattle.plant.specs.Laws.{Lawful}
 use Rattle.legs.specs.Kinds.{Kind, Tells}
 use Rattle.legs.specs.Layers.{Leg, has, In, layer, layer_before, settings}
-use Rattle.legs.specs.Legs.{empty, size, ends, end, sizes, room, most_room, need}
+use Rattle.legs.specs.Legs.{empty, ends, end, room, need}
 use Rattle.legs.proofs.Tells.{layer_settings}
 use Rattle.legs.proofs.Ends.{end_is, below_end}
 use Rattle.legs.proofs.Need.{layer_size, room_layers, need_room}

@@ -6,7 +6,7 @@ use Rattle.plant.specs.declared.refusal.Refusal.TheVariants.{NoSuchSetting, Boun
 use Rattle.legs.specs.Kinds.{Kind}
 use Rattle.legs.specs.Layers.{Leg, In, layer}
 use Rattle.legs.specs.Legs.{leg_length, expanded, need}
-use Rattle.legs.specs.Answers.{Counted, outside, too_high, measured}
+use Rattle.legs.specs.Answers.{outside, too_high, measured}
 use Rattle.search.specs.declared.leg_search.Reached.{Reached}
 
 -- zero in the first n records, or in all where there are no more, and the others as they were

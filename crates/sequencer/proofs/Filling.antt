@@ -1,5 +1,5 @@
 -- A list table filled by a plan holds the plan's list. Assumes nothing.
-use Rattle.std.proofs.Common.{◌≡◌, ℕ, ◌-◌, true, List, take, Some, None, Ok, Err, Option, Result, sym, refl, ap, ◌∙◌}
+use Rattle.std.proofs.Common.{◌≡◌, ℕ, List, take, Some, Ok, Option, Result, sym, ap, ◌∙◌}
 use native.Mathlib.Nat.{sub-zero}
 use Rattle.plant.specs.declared.refusal.Refusal.{Refusal}
 use Rattle.legs.specs.Answers.{Counted}

@@ -1,10 +1,9 @@
 -- What the rules make of some calls on a bench of two valves, of 3 and 2 positions. Assumes nothing.
-use Rattle.std.specs.Prelude.{◌≡◌, ℕ, true, false, List, [], ◌∷◌, Some, None, Option}
+use Rattle.std.specs.Prelude.{◌≡◌, ℕ, true, List, [], ◌∷◌, Some, None, Option}
 use Rattle.plant.specs.Meaning.{Meaning}
 use Rattle.plant.specs.declared.refusal.Refusal.{Refusal}
 use Rattle.plant.specs.declared.refusal.Refusal.TheVariants.{TaggedAlready, Overfull, OutOfReach, WrongOperation}
 use Rattle.valves.specs.Bench.{bench}
-use Rattle.valves.specs.declared.interlock.Interlock.{Interlock}
 use Rattle.promise.specs.Calls.{Call, tag, untag, plan, done, drop_list, hand_move, accepted}
 use Rattle.promise.specs.Readings.{Work, setting_of, tagged_in}
 use Rattle.promise.specs.States.{refusal, after_calls, history}

@@ -1,9 +1,8 @@
 -- A sheet that has all its bodies is the sheet of its bodies. Assumes nothing.
-use Rattle.std.proofs.Common.{◌≡◌, ℕ, ◌≤◌, List, ◌++◌, length, take, sym, refl, ap, ◌∙◌, arith}
+use Rattle.std.proofs.Common.{◌≡◌, ◌≤◌, ◌++◌, length, take, sym, ap, ◌∙◌, arith}
 use Rattle.std.proofs.lemmas.List.{take_at}
-use Rattle.sheet.specs.Steps.{Steps}
 use Rattle.sheet.specs.Bytes.{sheet_bytes}
-use Rattle.sheet.specs.States.{State, Written, Completes}
+use Rattle.sheet.specs.States.{State, Completes}
 
 pub completes : (s : State) → s.filled ≡ s.declared → s.declared ≤ 64 → Completes s s.end
 completes s h few buffer bs rest w =

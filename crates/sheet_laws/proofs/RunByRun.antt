@@ -1,17 +1,14 @@
 -- Every run of calls leaves the sheet of the bodies put so far, and a closed sheet reads back. Assumes nothing.
-use Rattle.std.proofs.Common.{◌≡◌, ℕ, zero, suc, ◌+◌, ◌-◌, ◌*◌, ◌<◌, ◌≤◌, Bool, true, ◌&&◌, List, [], ◌∷◌, ◌++◌, length, take, drop, Some, None, sym, refl, ap, ◌∙◌, subst, append_assoc, append-nil, arith}
-use Rattle.std.proofs.lemmas.List.{length-replicate}
+use Rattle.std.proofs.Common.{◌≡◌, ℕ, ◌+◌, ◌-◌, ◌*◌, ◌<◌, ◌≤◌, true, List, [], ◌∷◌, ◌++◌, length, take, drop, None, sym, refl, ap, ◌∙◌, subst, append_assoc, append-nil, arith}
 use Rattle.std.proofs.lemmas.Bool.{and_parts, and_from}
 use Rattle.std.proofs.lemmas.Bool.Decides.{nat_tests}
-use Rattle.sheet.specs.Steps.{Steps, keeps_rule, fits, sound}
-use Rattle.sheet.specs.Bytes.{body_length, zeros, sheet_bytes, over}
-use Rattle.sheet.specs.States.{State, opened, open_refusal, opened_bytes, put_refusal, close_refusal, Written}
+use Rattle.sheet.specs.Steps.{Steps, keeps_rule, fits}
+use Rattle.sheet.specs.Bytes.{body_length, zeros, sheet_bytes}
+use Rattle.sheet.specs.States.{State, open_refusal, close_refusal, Written}
 use Rattle.sheet.proofs.Acceptance.{accepted_keeps, accepted_few}
 use Rattle.sheet.proofs.Growth.{written_more}
 use Rattle.sheet.proofs.Completion.{completes}
 use Rattle.sheet.proofs.Lengths.{length_sheet}
-use Rattle.file.specs.declared.kind.Reader.TheVariants.{StepsAlone}
-use Rattle.sheet_reader.specs.Laws.{bodies_in}
 use Rattle.sheet_reader.proofs.ReadBack.{reads_back}
 use Rattle.sheet_laws.specs.Runs.{Run, begun, step, Accepted, after, all_fit, PutAndRead}
 

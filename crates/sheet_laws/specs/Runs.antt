@@ -1,6 +1,5 @@
 -- Runs of calls on a sheet: opened, bodies put one after another, closed; and what is read from it. Assumes nothing.
-use Rattle.std.specs.Prelude.{◌≡◌, ℕ, Bool, true, ◌&&◌, List, [], ◌∷◌, length, take, Some, None, Option}
-use Rattle.sheet.specs.declared.refusal.SheetRefusal.{SheetRefusal}
+use Rattle.std.specs.Prelude.{◌≡◌, ℕ, Bool, true, ◌&&◌, List, [], ◌∷◌, length, take, None}
 use Rattle.sheet.specs.Steps.{Steps, fits}
 use Rattle.sheet.specs.States.{State, opened, open_refusal, opened_bytes, put_refusal, put_state, put_bytes, close_refusal}
 use Rattle.file.specs.declared.kind.Reader.TheVariants.{StepsAlone}

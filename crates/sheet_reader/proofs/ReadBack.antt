@@ -1,28 +1,22 @@
 -- The sheet of sound bodies has no fault and reads back as them. Assumes nothing.
-use Rattle.std.proofs.Common.{◌≡◌, ℕ, zero, suc, ◌+◌, ◌-◌, ◌*◌, ◌<◌, ◌≤◌, true, false, cond, not, ◌&&◌, eqb, ltb, leb, List, [], ◌∷◌, ◌++◌, map, length, get_or, take, drop, Some, None, Option, sym, refl, ap, ◌∙◌, append_assoc, arith, length-append}
+use Rattle.std.proofs.Common.{◌≡◌, ℕ, suc, ◌+◌, ◌-◌, ◌*◌, ◌≤◌, true, cond, not, eqb, ltb, List, [], ◌∷◌, ◌++◌, map, length, take, drop, Some, None, refl, ap, ◌∙◌, arith, length-append}
 use Rattle.std.specs.List.{flat_map}
 use Rattle.std.specs.Option.{option_map}
 use Rattle.std.proofs.lemmas.List.{take_at, drop_at}
-use Rattle.std.proofs.lemmas.Bool.{and_parts, le-ltb}
+use Rattle.std.proofs.lemmas.Bool.{and_parts}
 use Rattle.std.proofs.lemmas.Bool.Decides.{nat_tests}
-use Rattle.numbers.specs.Low.{low, value}
 use Rattle.numbers.proofs.Laws.{value_low}
 use Rattle.sheet.specs.Steps.{Steps, go_together, keeps_rule, fits, sound, all_sound}
 use Rattle.sheet.specs.Bytes.{body_bytes, body_length, row_bytes, zeros, sheet_bytes, bodies_length}
-use Rattle.sheet.proofs.Lengths.{length_body, length_rows, length_bodies, length_sheet}
-use Rattle.bodies.specs.StepsRule.{steps_fault}
-use Rattle.bodies.specs.StepsRead.{steps_of}
+use Rattle.sheet.proofs.Lengths.{length_body, length_rows, length_bodies}
 use Rattle.bodies.proofs.StepsLaws.{written_accepted, written_read}
-use Rattle.faults.specs.declared.fault.BodyFault.{BodyFault}
 use Rattle.faults.specs.declared.fault.BodyFault.TheVariants as body
 use Rattle.faults.specs.declared.fault.ContentsFault.TheVariants as contents
-use Rattle.faults.specs.declared.fault.FileFault.{FileFault}
 use Rattle.faults.specs.declared.fault.FileFault.TheVariants.{TooShort, TooLong, Contents, Body}
-use Rattle.file.specs.declared.kind.Reader.{Reader}
 use Rattle.file.specs.declared.kind.Reader.TheVariants.{StepsAlone}
 use Rattle.file.specs.Contents.{row_length, rows_fault, rows_length}
-use Rattle.file.specs.Parts.{Part, part, parts_from, parts_fault, part_fault, first_fault}
-use Rattle.file.specs.Read.{entries, rows, contents_end, told_length, parts, bodies_fault, contents_then, head_fault, length_fault, or_else, read_fault}
+use Rattle.file.specs.Parts.{Part, part, parts_from, parts_fault, first_fault}
+use Rattle.file.specs.Read.{entries, rows, parts, bodies_fault, contents_then, head_fault, length_fault, or_else, read_fault}
 use Rattle.sheet_reader.specs.Laws.{said, bodies_in, ReadsBack}
 
 -- a sound body has at most 520 bytes

@@ -1,13 +1,13 @@
 -- A sheet without a fault is the one that its bodies write. Assumes nothing.
-use Rattle.std.proofs.Common.{◌≡◌, ℕ, zero, suc, ◌+◌, ◌-◌, ◌*◌, ◌<◌, ◌≤◌, Bool, true, false, cond, ◌&&◌, eqb, List, [], ◌∷◌, ◌++◌, map, length, get_or, take, drop, is_some, Some, None, Option, sym, refl, ap, ◌∙◌, arith, length-drop, take-append-drop}
+use Rattle.std.proofs.Common.{◌≡◌, ℕ, zero, suc, ◌+◌, ◌*◌, ◌<◌, ◌≤◌, Bool, true, false, cond, eqb, List, [], ◌∷◌, ◌++◌, map, length, take, drop, Some, None, Option, sym, refl, ap, ◌∙◌, arith, length-drop, take-append-drop}
 use Rattle.std.specs.List.{flat_map}
 use Rattle.std.specs.Option.{option_map}
-use Rattle.std.proofs.lemmas.List.{length-take-le, drop-drop}
-use Rattle.std.proofs.lemmas.Bool.{eqb-true, false≢true, true≢false}
+use Rattle.std.proofs.lemmas.List.{length-take-le}
+use Rattle.std.proofs.lemmas.Bool.{eqb-true, false≢true}
 use Rattle.numbers.specs.Low.{low, value, Bytes}
 use Rattle.numbers.proofs.Laws.{low_value, bytes_take, bytes_drop}
 use Rattle.sheet.specs.Steps.{Steps}
-use Rattle.sheet.specs.Bytes.{body_bytes, body_length, row_bytes, sheet_bytes}
+use Rattle.sheet.specs.Bytes.{body_bytes, body_length, row_bytes}
 use Rattle.sheet.proofs.Lengths.{length_body}
 use Rattle.bodies.specs.StepsRule.{steps_fault}
 use Rattle.bodies.specs.StepsRead.{steps_of}
@@ -15,13 +15,12 @@ use Rattle.bodies.proofs.StepsLaws.{accepted_written}
 use Rattle.bodies.specs.declared.steps.StepsFault.{StepsFault}
 use Rattle.faults.specs.declared.fault.BodyFault.{BodyFault}
 use Rattle.faults.specs.declared.fault.BodyFault.TheVariants as body
-use Rattle.file.specs.declared.kind.Kind.{Kind}
 use Rattle.file.specs.declared.kind.Kind.TheVariants as kind
 use Rattle.file.specs.declared.kind.Reader.TheVariants.{StepsAlone}
 use Rattle.file.specs.Kinds.{kind_of, takes, takes_kind}
-use Rattle.file.specs.Contents.{row_kind, row_zero, row_length, rows_fault, rows_length}
-use Rattle.file.specs.Parts.{Part, part, parts_from, parts_fault, kind_fault, first_fault}
-use Rattle.file.specs.Read.{entries, rows, contents_end, told_length, parts, read_fault}
+use Rattle.file.specs.Contents.{row_length, rows_fault, rows_length}
+use Rattle.file.specs.Parts.{parts_from, parts_fault, kind_fault, first_fault}
+use Rattle.file.specs.Read.{read_fault}
 use Rattle.file.proofs.Acceptance.{Accepted, accepted, head_numbers, length_numbers, row_parts}
 use Rattle.sheet_reader.specs.Laws.{said, bodies_in, WritesBack}
 use Rattle.sheet_reader.proofs.ReadBack.{complete, complete_is}

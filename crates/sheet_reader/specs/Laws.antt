@@ -1,5 +1,5 @@
 -- The two laws between a sheet and its bodies. Assumes nothing.
-use Rattle.std.specs.Prelude.{◌≡◌, ℕ, ◌≤◌, true, List, map, length, Some, None, Option}
+use Rattle.std.specs.Prelude.{◌≡◌, ℕ, ◌≤◌, true, List, map, length, None, Option}
 use Rattle.sheet.specs.Steps.{Steps, all_sound}
 use Rattle.sheet.specs.Bytes.{sheet_bytes}
 use Rattle.bodies.specs.StepsRead.{steps_of}

@@ -1,9 +1,9 @@
 -- Walking along one valve's interlocks finds out whether any bars a move. Assumes nothing.
-use Rattle.std.proofs.Common.{◌≡◌, ℕ, suc, ◌<◌, ◌≤◌, Bool, true, false, ◌||◌, List, length, get_or, drop, sym, refl, ap, ◌∙◌, subst, arith}
+use Rattle.std.proofs.Common.{◌≡◌, ℕ, suc, ◌<◌, ◌≤◌, true, false, ◌||◌, List, length, get_or, drop, sym, refl, ap, ◌∙◌, subst, arith}
 use Rattle.std.proofs.lemmas.List.{drop_all}
 use Rattle.valves.specs.declared.interlock.Interlock.{Interlock}
 use Rattle.valves.specs.declared.bench.Bench.{Bench}
-use Rattle.valves.specs.Interlocks.{applies_to, bars, barred, row_from}
+use Rattle.valves.specs.Interlocks.{applies_to, barred, row_from}
 use Rattle.valves.specs.Of.{counts_of, interlocks_of}
 use Rattle.valves.proofs.Chains.{row_from_least, row_from_most, row_from_valve, bars_own, barred_from, barred_row}
 use Rattle.valves.specs.Invariant.{data_of, counts_length, rows_length, row_at}

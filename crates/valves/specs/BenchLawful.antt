@@ -1,18 +1,17 @@
 -- A bench made of good data is a lawful plant. Assumes nothing.
-use Rattle.std.specs.Prelude.{◌≡◌, ℕ, zero, suc, ◌+◌, ◌-◌, ◌*◌, ◌/◌, ◌%◌, ◌^◌, ◌<◌, ◌≤◌, Bool, true, false, cond, ◌&&◌, ◌⊎◌, List, [], ◌∷◌, length, set, Some, None, Option, nat_lt, slice_index, slice_index_or, slice_set, refl}
-use Rattle.std.proofs.Common.{sym, ap, ◌∙◌, subst, inl, inr, ⊎_elim, mul-pos, arith}
+use Rattle.std.specs.Prelude.{◌≡◌, ℕ, suc, ◌*◌, ◌/◌, ◌<◌, ◌≤◌, Bool, true, false, cond, ◌&&◌, List, [], ◌∷◌, length, set, Some, None, Option, nat_lt, slice_index, slice_index_or, slice_set, refl}
+use Rattle.std.proofs.Common.{sym, ap, ◌∙◌, subst, ⊎_elim, mul-pos, arith}
 use Rattle.std.proofs.lemmas.List.{set-set, set-get_or, get_or-set_same}
-use Rattle.std.proofs.lemmas.Bool.{cases_Bool, cases_lt, and_parts, and_from, and_left, and_right, ltb-true, lt-ltb, le-ltb, cond-true, cond-false, cond_both}
-use Rattle.plant.specs.Meaning.{Meaning, Steps, Leads}
+use Rattle.std.proofs.lemmas.Bool.{cases_lt, and_parts, and_from, and_left, and_right, ltb-true, lt-ltb, le-ltb, cond-true, cond-false, cond_both}
 use Rattle.plant.specs.Laws.{Lawful}
 use Rattle.plant.proofs.Estimates.{least_from_falls}
 use Rattle.valves.specs.declared.interlock.Interlock.{Interlock}
-use Rattle.valves.specs.Positions.{product, setting, positions, weight, apart, Within}
+use Rattle.valves.specs.Positions.{product, setting, positions, apart, Within}
 use Rattle.valves.specs.Interlocks.{barred}
 use Rattle.valves.specs.Bench.{landed, turned, bench_step, bench_reverse, bench_estimate, bench}
-use Rattle.valves.specs.Data.{Ranged, BenchData}
+use Rattle.valves.specs.Data.{BenchData}
 use Rattle.valves.specs.Numbering.{Positive, positions_within, setting_positions, positions_setting, setting_below, within_set, within_length, position_below, weight_all, weight_few}
-use Rattle.valves.specs.Moves.{moved, turned_moved, other_way, Turned, turned_back, Move, move_back}
+use Rattle.valves.specs.Moves.{moved, turned_moved, other_way, turned_back, Move, move_back}
 use Rattle.valves.specs.Barring.{barred_back}
 use Rattle.valves.specs.Differences.{apart_same, apart_most, apart_falls}
 

@@ -1,5 +1,5 @@
 -- Which data make a bench, and what is wrong first where they do not. Assumes nothing.
-use Rattle.std.specs.Prelude.{◌≡◌, ℕ, zero, suc, ◌<◌, ◌≤◌, Bool, cond, ◌||◌, List, [], ◌∷◌, length, Some, None, Option, ◌==◌, nat_le, nat_lt, slice_index}
+use Rattle.std.specs.Prelude.{ℕ, suc, cond, ◌||◌, List, [], ◌∷◌, length, Some, None, Option, ◌==◌, nat_le, nat_lt, slice_index}
 use Rattle.valves.specs.declared.interlock.Interlock.{Interlock}
 use Rattle.valves.specs.declared.fault.BenchFault.{BenchFault}
 use Rattle.valves.specs.declared.fault.BenchFault.TheVariants.{Valves, Interlocks, Positions, Valve, Position, Other, Same, Stands}

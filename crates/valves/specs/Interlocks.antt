@@ -1,5 +1,5 @@
 -- What an interlock bars. Assumes nothing.
-use Rattle.std.specs.Prelude.{ℕ, zero, suc, Bool, false, cond, ◌&&◌, ◌||◌, List, [], ◌∷◌, drop, ◌==◌, slice_index}
+use Rattle.std.specs.Prelude.{ℕ, suc, Bool, false, cond, ◌&&◌, ◌||◌, List, [], ◌∷◌, drop, ◌==◌, slice_index}
 use Rattle.valves.specs.declared.interlock.Interlock.{Interlock}
 
 -- whether an interlock applies to its valve going from position p to position q, with the valves at ps: its position

@@ -1,5 +1,5 @@
 -- Positions and settings determine each other, and one position of a valve adds its weight. Assumes nothing.
-use Rattle.std.specs.Prelude.{◌≡◌, ℕ, zero, suc, ◌+◌, ◌-◌, ◌*◌, ◌/◌, ◌%◌, ◌^◌, ◌<◌, ◌≤◌, List, [], ◌∷◌, length, set, slice_index, slice_set, refl}
+use Rattle.std.specs.Prelude.{◌≡◌, ℕ, zero, suc, ◌+◌, ◌*◌, ◌/◌, ◌%◌, ◌^◌, ◌<◌, ◌≤◌, List, [], ◌∷◌, length, slice_index, slice_set, refl}
 use Rattle.std.proofs.Common.{sym, ap, ◌∙◌, subst, arith, lit<, lit≤}
 use native.Mathlib.Nat.{mul_comm, mul-add, mul_assoc, mul_left_comm, mul-one, mod-lt, mod-eq_of_lt, div-eq_of_lt, mod-add-div, add-mul-mod_self_left, add-mul-div_left, div-lt_iff_lt-mul, div-div-eq-div-mul, div-one, mul-le-mul_left, mul-le-mul, mul-pos, one-le-pow, pow-succ', pow-le-pow_right}
 use Rattle.valves.specs.Positions.{product, setting, positions, weight, Within}

@@ -1,5 +1,5 @@
 -- What a bench was made of, what it means, and what making one answers. Assumes nothing.
-use Rattle.std.specs.Prelude.{◌≡◌, ℕ, Bool, cond, ◌&&◌, List, length, take, Some, None, Ok, Err, Option, Result, nat_lt, slice_index}
+use Rattle.std.specs.Prelude.{◌≡◌, ℕ, cond, ◌&&◌, List, length, take, Some, None, Ok, Err, Option, Result, nat_lt, slice_index}
 use Rattle.plant.specs.Meaning.{Meaning}
 use Rattle.valves.specs.declared.interlock.Interlock.{Interlock}
 use Rattle.valves.specs.declared.fault.BenchFault.{BenchFault}

@@ -1,5 +1,5 @@
 -- A steps body ends the loop, any other entry leaves the answer to those behind it.
-use Rattle.std.proofs.Common.{◌≡◌, ◌<◌, ◌≤◌, length, sym, ap, ◌∙◌, arith}
+use Rattle.std.proofs.Common.{◌<◌, ◌≤◌, length, sym, ap, ◌∙◌, arith}
 use Rattle.file.specs.Files.{file_bytes, file_fault}
 use Rattle.book.specs.Book.{is_steps, entries_in}
 use Rattle.book.proofs.EntryByEntry.{entries_are, entry_is, steps_here, steps_more, steps_none}

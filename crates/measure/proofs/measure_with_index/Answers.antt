@@ -1,11 +1,10 @@
 -- The answer is the leg's, and the records are cleared after a search.
-use Rattle.std.proofs.Common.{◌≡◌, ltb, length, replicate, sym, ap, ◌∙◌}
+use Rattle.std.proofs.Common.{ltb, length, replicate, ap, ◌∙◌}
 use Rattle.legs.specs.Legs.{leg_length, expanded, need}
-use Rattle.legs.specs.PlanLaws.{Measures}
 use Rattle.legs.proofs.Laws.{legs_lawful}
 use Rattle.legs.proofs.PlanLaws.{plans_lawful}
 use Rattle.search.specs.Leg.{leg}
-use Rattle.search.specs.Answered.{zeroed, leg_leaves, left_by}
+use Rattle.search.specs.Answered.{leg_leaves, left_by}
 use Rattle.search.proofs.Left.{left_found, left_refused, leg_leaves_long, leg_leaves_outside}
 use Rattle.measure.proofs.measure_with_index.Goals as goal
 

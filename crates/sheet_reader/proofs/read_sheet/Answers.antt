@@ -1,5 +1,5 @@
 -- The two laws, at what was read.
-use Rattle.std.proofs.Common.{◌≡◌, ◌<◌, get_or, Option, sym, ◌∙◌, subst, arith}
+use Rattle.std.proofs.Common.{Option, sym, subst, arith}
 use Rattle.faults.specs.declared.fault.FileFault.{FileFault}
 use Rattle.numbers.proofs.Laws.{bytes_from}
 use Rattle.sheet_reader.specs.Laws.{ReadsBack, WritesBack}

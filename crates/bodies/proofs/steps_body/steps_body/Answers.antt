@@ -1,5 +1,5 @@
 -- The fields of the body.
-use Rattle.std.proofs.Common.{refl, ap, ◌∙◌, arith}
+use Rattle.std.proofs.Common.{refl, ap, arith}
 use Rattle.std.proofs.lemmas.List.{take_rest}
 use Rattle.numbers.proofs.Fields.{field_2, field_4, field_8}
 use Rattle.bodies.specs.StepsRead.{pairs}

@@ -1,5 +1,5 @@
 -- The book's first fault, or the sheet that was written, which reads back as the plans of the jobs.
-use Rattle.std.proofs.Common.{◌≡◌, ℕ, List, drop, Some, sym, ap, ◌∙◌, subst, rules}
+use Rattle.std.proofs.Common.{ℕ, List, drop, Some, sym, ap, ◌∙◌, subst, rules}
 use Rattle.file.specs.Files.{file_fault}
 use Rattle.book.specs.Book.{book_fault_in}
 use Rattle.book_to_sheet.specs.Filled.{SheetWritten}

@@ -1,5 +1,5 @@
 -- The buffer is too short for the head, or for a body, or the sheet is complete.
-use Rattle.std.proofs.Common.{◌≡◌, ℕ, ◌+◌, ◌*◌, length, drop, sym, ap, ◌∙◌}
+use Rattle.std.proofs.Common.{◌≡◌, ◌+◌, ◌*◌, length, drop, sym, ap, ◌∙◌}
 use Rattle.sheet.specs.States.{state}
 use Rattle.file.specs.Files.{file_bytes}
 use Rattle.book_sheet.specs.Sheets.{book_steps}

@@ -1,5 +1,5 @@
 -- One entry a turn; past the last all answers are put, and the first that is refused ends it.
-use Rattle.std.proofs.Common.{◌≡◌, ◌<◌, ◌≤◌, length, sym, ap, ◌∙◌, subst, arith}
+use Rattle.std.proofs.Common.{◌<◌, ◌≤◌, length, sym, ◌∙◌, subst, arith}
 use Rattle.sheet.specs.States.{state}
 use Rattle.file.specs.Files.{file_bytes}
 use Rattle.book_sheet.proofs.JobByJob.{bodies_for_jobs, bodies_few}

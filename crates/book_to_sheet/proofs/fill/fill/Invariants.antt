@@ -1,5 +1,4 @@
 -- The answers to the entries so far stand on the sheet.
-use Rattle.std.proofs.Common.{◌≡◌, length}
 use Rattle.sheet.specs.States.{state}
 use Rattle.book_to_sheet.specs.Entries.{parts_of}
 use Rattle.book_to_sheet.proofs.Filling.{PutSoFar}

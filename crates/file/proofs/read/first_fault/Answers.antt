@@ -1,5 +1,4 @@
 -- The first check that fails gives the answer.
-use Rattle.std.proofs.Common.{arith}
 use Rattle.file.proofs.CheckByCheck.{read_rows, read_short, read_long, read_bodies, told_by}
 use Rattle.file.proofs.read.first_fault.Goals as goal
 

@@ -1,5 +1,5 @@
 -- Lists of none and one operation need no leg; a longer one is its two halves.
-use Rattle.std.proofs.Common.{◌≡◌, ℕ, ◌+◌, ◌-◌, ◌/◌, ◌<◌, ◌≤◌, List, ◌++◌, length, Some, None, sym, refl, ap, ◌∙◌, subst, arith, length-take, rules}
+use Rattle.std.proofs.Common.{◌≡◌, ℕ, ◌+◌, ◌-◌, ◌/◌, ◌≤◌, length, Some, None, ◌∙◌, subst, arith, length-take}
 use Rattle.legs.specs.Answers.{Counted}
 use Rattle.plan.specs.Fetched.{Fetched}
 use Rattle.plan.proofs.Fetching.{fetched_none, fetched_one, some_lowest, leg_overfull, leg_few, relay_halfway, halfway_in, first_distance, second_distance, first_overfull, second_overfull, fetched_both}

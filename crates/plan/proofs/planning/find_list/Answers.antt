@@ -1,8 +1,6 @@
 -- The first leg, then the fetch.
-use Rattle.std.proofs.Common.{◌≡◌, ℕ, ◌+◌, ◌-◌, ◌≤◌, length, Some, None, Ok, sym, refl, ap, ◌∙◌, subst, arith, length-take, rules}
-use lib.ListN.{length-replicate}
+use Rattle.std.proofs.Common.{◌≡◌, ℕ, ◌+◌, ◌≤◌, length, Some, None, Ok, ap, ◌∙◌, subst, arith, length-take, rules}
 use Rattle.legs.specs.Answers.{Counted}
-use Rattle.legs.specs.Plans.{planned}
 use Rattle.search.specs.Leg.{leg}
 use Rattle.search.specs.Records.{relay_blank}
 use Rattle.search.proofs.Left.{leg_leaves_outside}

@@ -1,6 +1,5 @@
 -- What was found is handed over, and the records are cleared.
-use Rattle.std.proofs.Common.{◌≡◌, ltb, length, replicate, sym, refl, ap, ◌∙◌, subst}
-use Rattle.legs.specs.Answers.{Counted}
+use Rattle.std.proofs.Common.{ltb, length, replicate, refl, ap, ◌∙◌}
 use Rattle.legs.specs.Plans.{plan_legs, most_need, plan_list, count}
 use Rattle.legs.proofs.PlanLaws.{plans_lawful}
 use Rattle.search.specs.Leg.{leg}

@@ -1,13 +1,12 @@
 -- The leg is refused, or its length is where it ended.
-use Rattle.std.proofs.Common.{◌≡◌, ◌++◌, length, drop, replicate, Some, sym, ap, ◌∙◌, subst, arith}
-use Rattle.legs.specs.Kinds.{Kind, Tells}
+use Rattle.std.proofs.Common.{◌++◌, drop, replicate, Some, sym, ap, ◌∙◌, subst, arith}
+use Rattle.legs.specs.Kinds.{Tells}
 use Rattle.legs.specs.Layers.{In, layer}
-use Rattle.legs.specs.Legs.{end, need}
+use Rattle.legs.specs.Legs.{need}
 use Rattle.legs.proofs.Need.{need_one}
 use Rattle.search.specs.Records.{kind}
 use Rattle.search.specs.Leg.{leg_of}
 use Rattle.search.specs.Walked.{AtEnd}
-use Rattle.search.specs.Answered.{zeroed}
 use Rattle.search.proofs.Answering.{length_hit, zeroed_front, zeroed_all, zeroed_none}
 use Rattle.search.proofs.leg_search.search_within.Goals as goal
 

@@ -1,5 +1,5 @@
 -- Zero below this place, and unchanged from it on.
-use Rattle.std.proofs.Common.{◌≡◌, ◌≤◌, ◌++◌, length, drop, replicate}
+use Rattle.std.proofs.Common.{◌≡◌, ◌++◌, drop, replicate}
 use Rattle.search.proofs.one_leg.blank_front.Given as goal
 
 abbrev pub invariant-loop-place : goal.invariant-loop-place

@@ -1,5 +1,5 @@
 -- The record at the place that was found.
-use Rattle.std.proofs.Common.{length, arith}
+use Rattle.std.proofs.Common.{arith}
 use lib.ListN.{length-map}
 use Rattle.search.proofs.Blanks.{read_there}
 use Rattle.search.proofs.one_leg.first_record.Goals as goal

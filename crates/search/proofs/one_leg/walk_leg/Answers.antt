@@ -1,7 +1,7 @@
 -- The leg ran to its end in the store that these records made.
-use Rattle.std.proofs.Common.{◌≡◌, ℕ, ◌≤◌, List, [], length, drop, sym, refl, ap, ◌∙◌, subst, arith, rules}
-use Rattle.legs.specs.Kinds.{Kind, Tells}
-use Rattle.legs.specs.Legs.{end, expanded, need, sizes, most_room}
+use Rattle.std.proofs.Common.{◌≡◌, [], drop, ap, ◌∙◌, subst, arith, rules}
+use Rattle.legs.specs.Kinds.{Tells}
+use Rattle.legs.specs.Legs.{need, sizes, most_room}
 use Rattle.legs.proofs.Need.{need_one}
 use Rattle.search.specs.Records.{kind}
 use Rattle.search.specs.Leg.{leg_of}

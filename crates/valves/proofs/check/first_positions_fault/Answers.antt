@@ -1,5 +1,5 @@
 -- Each turn looks at one valve.
-use Rattle.std.proofs.Common.{sym, ◌∙◌, arith}
+use Rattle.std.proofs.Common.{sym, ◌∙◌}
 use Rattle.valves.proofs.FaultWalk.{positions_low, positions_high, positions_next, positions_end}
 use Rattle.valves.proofs.check.first_positions_fault.Goals as goal
 

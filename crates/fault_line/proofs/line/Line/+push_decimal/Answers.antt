@@ -1,5 +1,5 @@
 -- One digit, or the last one behind the others.
-use Rattle.std.proofs.Common.{◌≡◌, ◌+◌, ◌/◌, ◌<◌, ◌++◌, length, sym, ap, ◌∙◌, arith, length-append}
+use Rattle.std.proofs.Common.{◌+◌, ◌/◌, ◌<◌, ◌++◌, length, sym, ap, ◌∙◌, arith, length-append}
 use Rattle.fault_line.specs.Lines.{written, numeral}
 use Rattle.fault_line.proofs.Numerals.{numeral_one, numeral_room, numeral_pushed}
 use Rattle.fault_line.proofs.line.Line.+push_decimal.Goals as goal

@@ -1,5 +1,5 @@
 -- The pieces of a line fit 32 bytes.
-use Rattle.std.proofs.Common.{◌≡◌, ◌+◌, ◌<◌, length, ap, arith, length-append}
+use Rattle.std.proofs.Common.{◌+◌, ◌<◌, length, ap, arith, length-append}
 use Rattle.fault_line.specs.Lines.{written, numeral}
 use Rattle.fault_line.proofs.Pushes.{room_for_byte}
 use Rattle.fault_line.proofs.line.Line.of.Goals as goal

@@ -1,10 +1,10 @@
 -- A file without a fault meets what finding an entry asks for.
-use Rattle.std.proofs.Common.{◌≡◌, drop, Option, sym, ap, ◌∙◌, subst, arith}
+use Rattle.std.proofs.Common.{◌≡◌, drop, Option, sym, ap, ◌∙◌, subst}
 use Rattle.std.specs.List.{slice_get}
 use Rattle.file.specs.Files.{entry_of, seen, StandsIn}
-use Rattle.file.specs.Read.{entries, rows, contents_end}
+use Rattle.file.specs.Read.{entries, contents_end}
 use Rattle.file.specs.Parts.{Part, parts_from}
-use Rattle.file.proofs.CheckByCheck.{behind_head, behind_head_rows}
+use Rattle.file.proofs.CheckByCheck.{behind_head_rows}
 use Rattle.file.proofs.Acceptance.{Accepted, file_accepted, accepted_few, accepted_there, accepted_whole, accepted_known}
 use Rattle.file.proofs.Finding.{entry_past, entry_stands}
 use Rattle.file.proofs.file.File.entry.Goals as goal

@@ -1,6 +1,5 @@
 -- Every place of the setting can still be found from this one on.
 use Rattle.std.proofs.Common.{◌≤◌, map, length}
-use Rattle.search.specs.Chained.{bucket_of}
 use Rattle.search.proofs.Chaining.{Left}
 use Rattle.search.proofs.chains.ChainsLookup.meets.Given as goal
 

@@ -1,7 +1,7 @@
 -- The layers stand one place nearer to the front, and the lookup was told.
-use Rattle.std.proofs.Common.{◌≡◌, ℕ, ◌+◌, ◌-◌, ◌≤◌, List, map, length, take, drop, sym, refl, ap, ◌∙◌, subst, arith}
+use Rattle.std.proofs.Common.{◌≡◌, ◌+◌, ◌-◌, map, take, drop, sym, refl, ap, ◌∙◌, subst, arith}
 use Rattle.std.proofs.lemmas.List.{drop-map}
-use Rattle.search.specs.Stored.{room_of, standing}
+use Rattle.search.specs.Stored.{standing}
 use Rattle.search.proofs.store.Store.advance.Goals as goal
 
 pub returns : goal.returns

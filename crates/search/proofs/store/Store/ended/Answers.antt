@@ -1,5 +1,5 @@
 -- The target has a place in the present layer.
-use Rattle.std.proofs.Common.{map, sym, ◌∙◌}
+use Rattle.std.proofs.Common.{map, sym}
 use Rattle.std.proofs.lemmas.Bool.{or_left}
 use Rattle.search.specs.Walked.{present_records}
 use Rattle.search.proofs.Scanning.{has_at}

@@ -1,5 +1,5 @@
 -- Each record is one turn.
-use Rattle.std.proofs.Common.{◌≡◌, ℕ, ◌+◌, ◌<◌, ◌≤◌, true, false, length, take, sym, refl, ap, ◌∙◌, subst, arith, take_all}
+use Rattle.std.proofs.Common.{◌≡◌, ◌+◌, ◌<◌, ◌≤◌, length, refl, ap, ◌∙◌, subst, arith, take_all}
 use Rattle.legs.specs.Layers.{layer}
 use Rattle.legs.specs.Legs.{room}
 use Rattle.legs.specs.Filling.{filled}

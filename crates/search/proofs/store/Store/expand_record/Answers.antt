@@ -1,14 +1,14 @@
 -- Each operation is one turn.
-use Rattle.std.proofs.Common.{◌≡◌, ℕ, suc, ◌+◌, ◌<◌, Bool, true, false, List, length, get_or, take, drop, sym, refl, ap, ◌∙◌, subst, add-one, arith}
-use Rattle.legs.specs.Kinds.{Kind, Tells}
-use Rattle.legs.specs.Layers.{Leg, layer}
+use Rattle.std.proofs.Common.{◌≡◌, ◌+◌, ◌<◌, true, false, get_or, take, drop, sym, refl, ap, ◌∙◌, subst, add-one, arith}
+use Rattle.legs.specs.Kinds.{Tells}
+use Rattle.legs.specs.Layers.{layer}
 use Rattle.legs.specs.Legs.{room}
 use Rattle.legs.specs.Filling.{filled, filled_more}
 use Rattle.legs.proofs.Filling.{filled_starts, filled_ends}
 use Rattle.search.specs.Records.{kind}
 use Rattle.search.specs.Leg.{leg_of}
 use Rattle.search.specs.Offered.{arriving, Taken}
-use Rattle.search.specs.Stored.{room_of, Kept}
+use Rattle.search.specs.Stored.{room_of}
 use Rattle.search.specs.Stands.{Stands, filled_by}
 use Rattle.search.proofs.Storing.{unchanged}
 use Rattle.search.proofs.Turns.{kept_on, turn, no_place, in_layer, layer_split, one_record}

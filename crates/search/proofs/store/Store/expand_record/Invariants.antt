@@ -1,5 +1,5 @@
 -- The next layer is filled by the records before this one and by the operations so far.
-use Rattle.std.proofs.Common.{◌≡◌, ◌+◌, take}
+use Rattle.std.proofs.Common.{◌≡◌, take}
 use Rattle.legs.specs.Layers.{layer}
 use Rattle.legs.specs.Filling.{filled_more}
 use Rattle.search.specs.Records.{kind}

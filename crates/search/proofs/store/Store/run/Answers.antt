@@ -1,17 +1,13 @@
 -- Each layer is one turn, until the leg ends.
-use Rattle.std.proofs.Common.{◌≡◌, ℕ, suc, ◌+◌, ◌<◌, ◌≤◌, max, true, false, length, sym, refl, ap, ◌∙◌, subst, add-one, arith}
-use Rattle.plant.specs.Laws.{Lawful}
-use Rattle.legs.specs.Kinds.{Kind, Tells}
-use Rattle.legs.specs.Layers.{layer}
-use Rattle.legs.specs.Legs.{ends, sizes}
+use Rattle.std.proofs.Common.{suc, ◌+◌, sym, ◌∙◌, subst, add-one, arith}
+use Rattle.legs.specs.Kinds.{Tells}
 use Rattle.legs.proofs.Few.{few}
 use Rattle.legs.proofs.Need.{layer_size}
 use Rattle.search.specs.Records.{kind}
 use Rattle.search.specs.Leg.{leg_of}
-use Rattle.search.specs.Stored.{count}
 use Rattle.search.specs.Stands.{Completed}
-use Rattle.search.specs.Walked.{over, Walked}
-use Rattle.search.proofs.Walking.{over_ends, below_bound, walked_first, walked_on, too_short, walked_to_end}
+use Rattle.search.specs.Walked.{Walked}
+use Rattle.search.proofs.Walking.{over_ends, below_bound, walked_on, too_short, walked_to_end}
 use Rattle.search.proofs.store.Store.run.Goals as goal
 
 pub expand_layer-requires : goal.expand_layer-requires

@@ -1,5 +1,5 @@
 -- The list moves on by its first operation, and the setting steps by it in the plant below.
-use Rattle.std.proofs.Common.{◌≡◌, Ok, sym, refl, ap, ◌∙◌}
+use Rattle.std.proofs.Common.{Ok, sym, refl, ap, ◌∙◌}
 use Rattle.std.proofs.lemmas.Result.{err_from_is_err_and}
 use Rattle.legs.specs.Lists.{landing}
 use Rattle.promise.specs.Calls.{done}

@@ -1,5 +1,5 @@
 -- The list goes, if there is one.
-use Rattle.std.proofs.Common.{◌≡◌, Ok, Err, sym, refl, ◌∙◌}
+use Rattle.std.proofs.Common.{Ok, Err, sym, refl}
 use Rattle.plant.specs.declared.refusal.Refusal.TheVariants.{NoList}
 use Rattle.promise.specs.Calls.{drop_list}
 use Rattle.promise.specs.Readings.{Work}

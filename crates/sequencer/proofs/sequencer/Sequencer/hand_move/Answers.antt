@@ -1,5 +1,5 @@
 -- The setting is the given one, if there is such a setting, and the list goes.
-use Rattle.std.proofs.Common.{◌≡◌, ◌<◌, ◌≤◌, Ok, Err, sym, refl, ap, ◌∙◌, arith}
+use Rattle.std.proofs.Common.{◌<◌, ◌≤◌, Ok, Err, refl, ap, arith}
 use Rattle.plant.specs.declared.refusal.Refusal.TheVariants.{NoSuchSetting}
 use Rattle.promise.specs.Calls.{hand_move}
 use Rattle.promise.specs.States.{State, effect}

@@ -1,5 +1,5 @@
 -- The tagged plant refuses or accepts as the rules say, and the list follows.
-use Rattle.std.proofs.Common.{◌≡◌, Ok, sym, refl, ap, ◌∙◌}
+use Rattle.std.proofs.Common.{Ok, refl}
 use Rattle.std.proofs.lemmas.Result.{err_from_is_err_and}
 use Rattle.promise.specs.Calls.{untag}
 use Rattle.promise.specs.States.{State, effect}

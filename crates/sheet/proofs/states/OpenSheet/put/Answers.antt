@@ -1,8 +1,8 @@
 -- What is left is the sheet of one body more.
-use Rattle.std.proofs.Common.{◌≡◌, ℕ, ◌<◌, true, List, [], ◌∷◌, ◌++◌, drop, sym, refl, ◌∙◌, subst, arith}
+use Rattle.std.proofs.Common.{◌≡◌, ℕ, ◌<◌, true, List, [], ◌∷◌, ◌++◌, drop, sym, refl, subst, arith}
 use Rattle.sheet.specs.Steps.{Steps, steps, sound}
 use Rattle.sheet.specs.Bytes.{body_length}
-use Rattle.sheet.specs.States.{State, state, put_state, put_bytes, Written}
+use Rattle.sheet.specs.States.{State, state, put_state, Written}
 use Rattle.sheet.proofs.Acceptance.{accepted_keeps, accepted_few, kept_sound, put_parts}
 use Rattle.sheet.proofs.Growth.{written_more}
 use Rattle.sheet.proofs.states.OpenSheet.put.Goals as goal

@@ -1,5 +1,5 @@
 -- The rows from `row` on bar the move exactly where all rows do.
-use Rattle.std.proofs.Common.{◌≡◌, ◌-◌}
+use Rattle.std.proofs.Common.{◌-◌}
 use Rattle.valves.specs.Positions.{positions}
 use Rattle.valves.specs.Of.{counts_of}
 use Rattle.valves.proofs.Rows.{AtRow}

@@ -1,8 +1,8 @@
 -- Down, unless the valve is at its end or barred.
-use Rattle.std.proofs.Common.{◌≡◌, ◌-◌, ◌<◌, true, false, sym, ap, ◌∙◌, subst, arith}
+use Rattle.std.proofs.Common.{◌≡◌, ◌-◌, ◌<◌, true, false, sym, ◌∙◌, subst, arith}
 use Rattle.valves.specs.Interlocks.{barred}
 use Rattle.valves.specs.Of.{interlocks_of}
-use Rattle.valves.proofs.Steps.{placed, stood, down_fits, down_at_end, down_barred, down_free}
+use Rattle.valves.proofs.Steps.{placed, down_fits, down_at_end, down_barred, down_free}
 use Rattle.valves.proofs.bench.Bench.down.Goals as goal
 
 pub returns-then-from-eq0 : goal.returns-then-from-eq0

@@ -1,8 +1,8 @@
 -- Up, unless the valve is at its end or barred.
-use Rattle.std.proofs.Common.{◌≡◌, ◌+◌, ◌<◌, ◌≤◌, true, false, get_or, sym, ap, ◌∙◌, subst, arith}
+use Rattle.std.proofs.Common.{◌≡◌, ◌+◌, ◌<◌, ◌≤◌, true, false, get_or, sym, ◌∙◌, subst, arith}
 use Rattle.valves.specs.Interlocks.{barred}
 use Rattle.valves.specs.Of.{interlocks_of}
-use Rattle.valves.proofs.Steps.{placed, stood, stood_few, up_fits, up_at_end, up_barred, up_free}
+use Rattle.valves.proofs.Steps.{placed, stood_few, up_fits, up_at_end, up_barred, up_free}
 use Rattle.valves.proofs.bench.Bench.up.Goals as goal
 
 pub overflow_add-to : goal.overflow_add-to
