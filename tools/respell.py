@@ -35,8 +35,8 @@ def read(path):
 
 # These would fall together with a name that stands beside them: old name and new one.
 APART = {"Out-of-reach": "LiesOutOfReach", "bit-xor": "xor_bit"}
-# port.py has turned these halfway.
-HALFWAY = {"Goes_on": "GoesOn"}
+# port.py has turned the first halfway; the others are other names that an import gives.
+HALFWAY = {"Goes_on": "GoesOn", "at-setting": "at_setting", "any-bars": "any_bars"}
 
 
 def respelled(name):

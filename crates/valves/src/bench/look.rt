@@ -1,7 +1,7 @@
 // Looking at one valve: where it stands, and whether an interlock bars it.
 ghost use Rattle.std.specs.Prelude.{◌≡◌, ◌<◌, slice_index};
-ghost use Rattle.valves.specs.Positions.{positions as at-setting, Numbered};
-ghost use Rattle.valves.specs.Interlocks.{barred as any-bars, applies_to};
+ghost use Rattle.valves.specs.Positions.{positions as at_setting, Numbered};
+ghost use Rattle.valves.specs.Interlocks.{barred as any_bars, applies_to};
 ghost use Rattle.valves.specs.Of.{counts_of, interlocks_of, position_of};
 
 use crate::bench::Bench;
@@ -35,7 +35,7 @@ impl Bench {
     pub(crate) fn stands(&self, setting: u32, valve: usize) -> u8
         requires valve { valve < self.now.valves }
         requires setting { setting < self.now.settings }
-        ensures { result ≡ slice_index (at-setting (counts_of self.now) setting) valve }
+        ensures { result ≡ slice_index (at_setting (counts_of self.now) setting) valve }
     {
         let part = (setting as u64).wrapping_mul(self.shares[valve]) % WHOLE;
         (part * self.positions[valve] as u64 / WHOLE) as u8
@@ -46,7 +46,7 @@ impl Bench {
     pub(crate) fn barred(&self, setting: u32, valve: usize, from: u8, to: u8) -> bool
         requires valve { valve < self.now.valves }
         requires setting { setting < self.now.settings }
-        ensures { result ≡ any-bars valve from to (at-setting (counts_of self.now) setting) (interlocks_of self.now) }
+        ensures { result ≡ any_bars valve from to (at_setting (counts_of self.now) setting) (interlocks_of self.now) }
     {
         let rows = self.rows as usize;
         let mut row = self.first[valve] as usize;
@@ -64,7 +64,7 @@ impl Bench {
     fn applies(&self, setting: u32, lock: Interlock, from: u8, to: u8) -> bool
         requires other { lock.other < self.now.valves }
         requires setting { setting < self.now.settings }
-        ensures { result ≡ applies_to from to (at-setting (counts_of self.now) setting) lock }
+        ensures { result ≡ applies_to from to (at_setting (counts_of self.now) setting) lock }
     {
         if (lock.position == from) | (lock.position == to) {
             self.stands(setting, lock.other as usize) == lock.stands

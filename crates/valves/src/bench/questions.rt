@@ -1,6 +1,6 @@
 // A bench as a plant: its questions, answered by its meaning.
 ghost use Rattle.std.specs.Prelude.{◌≡◌, ◌<◌};
-ghost use Rattle.valves.specs.Positions.{positions as at-setting, apart as differences};
+ghost use Rattle.valves.specs.Positions.{positions as at_setting, apart as differences};
 ghost use Rattle.valves.specs.Bench.{gone_up, gone_down};
 ghost use Rattle.valves.specs.Of.{counts_of, interlocks_of, bench_of};
 ghost use Rattle.valves.specs.Invariant.{lawful_of};
@@ -63,7 +63,7 @@ impl Bench {
     fn up(&self, setting: u32, valve: usize) -> Option<u32>
         requires valve { valve < self.now.valves }
         requires setting { setting < self.now.settings }
-        ensures { result ≡ gone_up (counts_of self.now) (interlocks_of self.now) (at-setting (counts_of self.now) setting) valve }
+        ensures { result ≡ gone_up (counts_of self.now) (interlocks_of self.now) (at_setting (counts_of self.now) setting) valve }
     {
         let from = self.stands(setting, valve);
         let to = from + 1;
@@ -80,7 +80,7 @@ impl Bench {
     fn down(&self, setting: u32, valve: usize) -> Option<u32>
         requires valve { valve < self.now.valves }
         requires setting { setting < self.now.settings }
-        ensures { result ≡ gone_down (counts_of self.now) (interlocks_of self.now) (at-setting (counts_of self.now) setting) valve }
+        ensures { result ≡ gone_down (counts_of self.now) (interlocks_of self.now) (at_setting (counts_of self.now) setting) valve }
     {
         let from = self.stands(setting, valve);
         if from == 0 {
@@ -97,7 +97,7 @@ impl Bench {
     fn apart(&self, from: u32, to: u32) -> u16
         requires from { from < self.now.settings }
         requires to { to < self.now.settings }
-        ensures { result ≡ differences (at-setting (counts_of self.now) from) (at-setting (counts_of self.now) to) }
+        ensures { result ≡ differences (at_setting (counts_of self.now) from) (at_setting (counts_of self.now) to) }
     {
         let mut sum = 0u16;
         for valve in 0..self.valves as usize {

@@ -1,7 +1,7 @@
 -- A position is a digit of the setting, and below four.
 use Rattle.std.proofs.Common.{◌*◌, ◌%◌, get_or, mul-le-mul_left, arith}
 use Rattle.valves.specs.Tables.{whole}
-use Rattle.valves.specs.Invariant.{count_four, digit_at}
+use Rattle.valves.specs.Invariant.{count_four, share_digit_at}
 use Rattle.valves.proofs.Steps.{stood_few}
 use Rattle.valves.proofs.bench.Bench.stands.Goals as goal
 
@@ -13,9 +13,9 @@ overflow_mul-result c =
 
 pub overflow_cast-result-2 : goal.overflow_cast-result-2
 overflow_cast-result-2 c =
-    let digit = digit_at c.args.self.now c.args.setting c.args.valve c.requires.valve c.requires.setting in
+    let digit = share_digit_at c.args.self.now c.args.setting c.args.valve c.requires.valve c.requires.setting in
     let few = stood_few c.args.self.now c.args.setting c.args.valve c.requires.valve c.requires.setting in
     omega arith
 
 pub returns : goal.returns
-returns c = digit_at c.args.self.now c.args.setting c.args.valve c.requires.valve c.requires.setting
+returns c = share_digit_at c.args.self.now c.args.setting c.args.valve c.requires.valve c.requires.setting
