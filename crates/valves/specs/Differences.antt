@@ -1,6 +1,6 @@
 -- The sum of the differences of position: its size, and how one move changes it. Assumes nothing.
 use Rattle.std.specs.Prelude.{◌≡◌, ℕ, zero, suc, ◌+◌, ◌-◌, ◌*◌, ◌<◌, ◌≤◌, List, [], ◌∷◌, length, drop, slice_index, slice_set, refl, ◌/◌, ◌%◌}
-use Rattle.std.proofs.Common.{ap, ◌∙◌, arith, sym, mod-lt}
+use Rattle.std.proofs.Common.{ap, ◌∙◌, arith, mod-lt}
 use Rattle.std.proofs.lemmas.List.{drop_more, drop_all}
 use Rattle.valves.specs.Positions.{apart, Within, positions}
 
