@@ -1,8 +1,7 @@
 // The kinds of record that layers are made of. Each tells its setting; what else it carries begins with the leg and is
 // handed on from step to step.
-ghost use Rattle.std.specs.Prelude.{◌≡◌, ℕ};
+ghost use Rattle.std.specs.Prelude.{◌≡◌, ℕ, refl};
 ghost use Rattle.search.specs.Records.{relay_opens, relay_carries, relay_blank};
-ghost use Rattle.std.proofs.Common.{rules};
 
 use legs::relayed::Relayed;
 
@@ -46,9 +45,9 @@ impl Record for u32 {
 
     ghost blank = { 0 };
 
-    ghost opened = { Prim.search rules };
+    ghost opened = { λ s. refl };
 
-    ghost carried = { Prim.search rules };
+    ghost carried = { λ h d r u. refl };
 
     fn setting(&self) -> u32 {
         *self
@@ -77,9 +76,9 @@ impl Record for Relayed {
 
     ghost blank = { relay_blank };
 
-    ghost opened = { Prim.search rules };
+    ghost opened = { λ s. refl };
 
-    ghost carried = { Prim.search rules };
+    ghost carried = { λ h d r u. refl };
 
     fn setting(&self) -> u32 {
         self.setting
