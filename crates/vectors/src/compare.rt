@@ -4,8 +4,8 @@ use crate::difference::Difference;
 use crate::vector::{Expected, Question};
 use anyhow::anyhow;
 use legs::relayed::Relayed;
-use measure::{Measured, measure_with_index};
-use plan::planning::{Planned, plan_with_index};
+use measure::{Measured, measure, measure_with_index};
+use plan::planning::{Planned, plan, plan_with_index};
 use plant::plant::Plant;
 use plant::refusal::Refusal;
 use std::alloc::Global;
@@ -14,7 +14,8 @@ use tagged::tagged::Tagged;
 // How many ways there are to lend an index.
 pub(crate) const WAYS: u8 = 5;
 
-// How many numbers are lent: none, one, enough for chains in one bucket, for chains in many, and for marks.
+// How many numbers are lent: none, as the calls without an index lend, one, enough for chains in one bucket, for chains in
+// many, and for marks.
 fn lent(way: u8, records: usize, settings: u32) -> usize {
     match way {
         0 => 0,
@@ -81,6 +82,15 @@ fn measure_with<P: Plant>(
     way: u8,
 ) -> anyhow::Result<Result<Measured, Refusal>> {
     let mut records = vec![in heap; 0u32; count]?;
+    if way == 0 {
+        return Ok(measure(
+            plant,
+            question.start,
+            question.target,
+            question.bound,
+            records.as_mut_slice(),
+        ));
+    }
     let mut index = vec![in heap; HELD; lent(way, count, plant.settings())]?;
     Ok(measure_with_index(
         plant,
@@ -105,6 +115,16 @@ fn plan_with<P: Plant>(
         relay: 0,
     };
     let mut records = vec![in heap; zero; count]?;
+    if way == 0 {
+        return Ok(plan(
+            plant,
+            question.start,
+            question.target,
+            question.bound,
+            records.as_mut_slice(),
+            place,
+        ));
+    }
     let mut index = vec![in heap; HELD; lent(way, count, plant.settings())]?;
     Ok(plan_with_index(
         plant,
