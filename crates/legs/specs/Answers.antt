@@ -1,4 +1,4 @@
--- What a call answers: the first refusal that is due, else what it found with the settings expanded. Assumes nothing.
+-- What a search answers: the first refusal that is due, else what it found with the settings expanded. Assumes nothing.
 use Rattle.std.specs.Prelude.{ℕ, Bool, true, false, ◌||◌, ltb, Some, None, Ok, Err, Option, Result, nat_le, nat_lt}
 use Rattle.plant.specs.Meaning.{Meaning}
 use Rattle.plant.specs.declared.refusal.Refusal.{Refusal}

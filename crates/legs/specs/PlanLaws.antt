@@ -12,7 +12,7 @@ use Rattle.legs.specs.Relays.{relays}
 use Rattle.legs.specs.Answers.{Counted, measured}
 use Rattle.legs.specs.Plans.{halfway, fetch_leg, fetch_legs, plan_legs, count, planned}
 
--- a plan finds the earliest list of a length, and exactly where there is one
+-- the search finds the earliest list of a length, and exactly where there is one
 abbrev pub Finds : Meaning → Type 0
 Finds m = (n s t : ℕ) (os : List ℕ) → (earliest m n s t ≡ Some os) ↔ Earliest m n s t os
 
@@ -50,7 +50,7 @@ InRange m g = (g.start < m.settings) × (g.target < m.settings) × (g.bound ≤ 
 abbrev pub Unreached : Meaning → Leg → Type 0
 Unreached m g = (k : ℕ) → k ≤ g.bound → Linked m k g.start g.target → ⊥
 
--- each answer of a plan, and exactly when it is given, by when the records suffice and when they do not, and by what
+-- each answer of a search, and exactly when it is given, by when the records suffice and when they do not, and by what
 -- is right to answer
 pub record Answers {A : Type 0} (m : Meaning) (ask : Leg → ℕ → Result (Counted A) Refusal) (Roomy Crowded : Leg → ℕ → Type 0) (Right : Leg → Counted A → Type 0) : Type 0 where
   pub no_such_setting : (g : Leg) (records : ℕ) → (ask g records ≡ Err NoSuchSetting) ↔ ((m.settings ≤ g.start) ⊎ (m.settings ≤ g.target))

@@ -1,4 +1,4 @@
-// Plants: what every plan and every sequencer is proved over, and the refusals that calls give.
+// Plants: what every search and every sequencer is proved over, and the refusals that calls give.
 #![tactic(auto)]
 
 pub mod follow;

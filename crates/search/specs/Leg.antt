@@ -1,4 +1,4 @@
--- The leg of three numbers, and the one that the code's own struct stands for. Assumes nothing.
+-- The leg of three numbers, and the one that the search's own struct stands for. Assumes nothing.
 use Rattle.std.specs.Prelude.{ℕ}
 use Rattle.legs.specs.Layers.{Leg}
 use Rattle.search.specs.declared.leg.Leg.{Leg as Task}

@@ -1,4 +1,4 @@
--- The layers in the store while a leg is walked. Assumes nothing.
+-- The layers in the store while a leg is searched. Assumes nothing.
 use Rattle.std.specs.Prelude.{◌≡◌, ℕ, suc, ◌<◌, Bool, true, false, List, [], ◌++◌, length, take, drop}
 use Rattle.plant.specs.Meaning.{Meaning}
 use Rattle.legs.specs.Kinds.{Kind}

@@ -1,4 +1,4 @@
-// Zero in every record, after a walk.
+// Zero in every record, after a search.
 ghost use Rattle.std.specs.Prelude.{◌≡◌, length, replicate};
 ghost use Rattle.search.specs.Answered.{left_by};
 
@@ -14,7 +14,7 @@ pub fn clear_all<R: Record>(records: &mut [R])
     blank_front(records, all);
 }
 
-// Leaves zero in every record after a refusal that comes from a walk, and the records as they were after any other.
+// Leaves zero in every record after a refusal that comes from a search, and the records as they were after any other.
 pub fn clear_after<R: Record>(refusal: Refusal, records: &mut [R])
     ensures { records.new ≡ left_by R.Record.blank refusal records.old }
 {

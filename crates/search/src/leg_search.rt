@@ -1,4 +1,4 @@
-// The walk of one leg, over any plant and any kind of record: the call that measures and plans are made of.
+// The search of one leg, over any plant and any kind of record: the call that measures and plans are made of.
 ghost use Rattle.std.specs.Prelude.{◌≡◌, ◌<◌, ◌≤◌, length};
 ghost use Rattle.legs.specs.Legs.{need};
 ghost use Rattle.search.specs.Records.{kind};
@@ -76,7 +76,7 @@ pub fn search_leg_with_index<P: Plant, R: Record>(
     search_within(plant, &leg, records, index)
 }
 
-// The walk, where start, target and bound are in range.
+// The search, where start, target and bound are in range.
 fn search_within<P: Plant, R: Record>(
     plant: &P,
     leg: &Leg,
@@ -111,7 +111,7 @@ fn search_within<P: Plant, R: Record>(
     }
 }
 
-// Walks the leg with the way of looking up that the index allows: marks where it has a bit for each setting of the
+// Searches the leg with the way of looking up that the index allows: marks where it has a bit for each setting of the
 // plant, else chains where it has more numbers than there are records, else record by record. For chains to be short,
 // lend two to three times as many numbers as records.
 fn walk_by<P: Plant, R: Record>(

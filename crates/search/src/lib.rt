@@ -1,4 +1,4 @@
-// The walk of one leg, layer by layer, in a workspace of records that the caller lends.
+// The search of one leg, layer by layer, in a workspace of records that the caller lends.
 #![tactic(auto)]
 
 pub mod chains;

@@ -1,4 +1,4 @@
-// How a setting is looked up among the records of a workspace: one interface, so that the walk above is proved once
+// How a setting is looked up among the records of a workspace: one interface, so that the search above is proved once
 // over every way of looking. What looks up is told when a record enters, when the layers move down and when they are
 // cleared, so that an index in memory of its own can follow.
 ghost use Rattle.std.specs.Prelude.{◌≡◌, ℕ, false, List, [], ◌∷◌, ◌++◌, map, length, drop};

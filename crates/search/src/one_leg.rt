@@ -1,4 +1,4 @@
-// One leg walked in records that the caller lends: its length, what it expands, and the record of its target.
+// One leg searched in records that the caller lends: its length, what it expands, and the record of its target.
 ghost use Rattle.std.specs.Prelude.{◌≡◌, ◌<◌, ◌≤◌, [], ◌++◌, length, drop, replicate};
 ghost use Rattle.search.specs.Records.{kind};
 ghost use Rattle.search.specs.Leg.{leg_of};

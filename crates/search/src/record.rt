@@ -15,7 +15,7 @@ pub trait Record: Copy {
 
     ghost carries: { ℕ → ℕ → Self → ℕ → Self };
 
-    // what every place of a workspace holds after a walk
+    // what every place of a workspace holds after a search
     ghost blank: { Self };
 
     fn setting(&self) -> u32

@@ -62,16 +62,6 @@ shares_few b s v h inside =
     let few : s ≤ 16777216 = omega (arith, b.counts, settings_few (counts_of b) (data_of b).valves_most four) in
     omega (arith, mul-le-mul few most)
 
--- the position of a valve, as the tables give it in 64 bits
-pub share_digit_at : (b : Bench) (s v : ℕ) → v < b.valves → s < b.settings → s * slice_index b.shares v % 18446744073709551616 % whole * slice_index b.positions v / whole ≡ slice_index (positions (counts_of b) s) v
-share_digit_at b s v h inside =
-    let some = weight_positive (counts_of b) v (positive (counts_of b) (data_of b).two) in
-    let two = count_two b v h in
-    let wrapped : s * slice_index b.shares v % 18446744073709551616 % whole ≡ s * slice_index b.shares v % whole = omega arith in
-    ap (λ x. x * slice_index b.positions v / whole) (wrapped ∙ ap (λ x. s * x % whole) (share_at b v h))
-    ∙ (share_digit whole s (weight (counts_of b) v) (slice_index b.positions v) (omega arith) some (omega arith) (shares_few b s v h inside)
-    ∙ (ap (λ x. (s / weight (counts_of b) v) % x) (sym (count_at b v h)) ∙ sym (position_digit (counts_of b) s v (valve_in b v h))))
-
 pub weight_some : (b : Bench) (v : ℕ) → v < b.valves → 0 < slice_index b.weights v
 weight_some b v h = subst (λ x. 0 < x) (sym (weight_at b v h)) (weight_positive (counts_of b) v (positive (counts_of b) (data_of b).two))
 
@@ -80,3 +70,13 @@ pub digit_at : (b : Bench) (s v : ℕ) → v < b.valves → (s / slice_index b.w
 digit_at b s v h =
     ap (λ x. (s / x) % slice_index b.positions v) (weight_at b v h)
     ∙ (ap (λ x. (s / weight (counts_of b) v) % x) (sym (count_at b v h)) ∙ sym (position_digit (counts_of b) s v (valve_in b v h)))
+
+-- the position of a valve, as the tables give it in 64 bits
+pub share_digit_at : (b : Bench) (s v : ℕ) → v < b.valves → s < b.settings → s * slice_index b.shares v % 18446744073709551616 % whole * slice_index b.positions v / whole ≡ slice_index (positions (counts_of b) s) v
+share_digit_at b s v h inside =
+    let some = weight_positive (counts_of b) v (positive (counts_of b) (data_of b).two) in
+    let two = count_two b v h in
+    let wrapped : s * slice_index b.shares v % 18446744073709551616 % whole ≡ s * slice_index b.shares v % whole = omega arith in
+    ap (λ x. x * slice_index b.positions v / whole) (wrapped ∙ ap (λ x. s * x % whole) (share_at b v h))
+    ∙ (share_digit whole s (weight (counts_of b) v) (slice_index b.positions v) (omega arith) some (omega arith) (shares_few b s v h inside)
+    ∙ (ap (λ x. (s / x) % slice_index b.positions v) (sym (weight_at b v h)) ∙ digit_at b s v h))

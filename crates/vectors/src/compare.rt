@@ -14,11 +14,10 @@ use tagged::tagged::Tagged;
 // How many ways there are to lend an index.
 pub(crate) const WAYS: u8 = 5;
 
-// How many numbers are lent: none, as the calls without an index lend, one, enough for chains in one bucket, for chains in
-// many, and for marks.
+// How many numbers are lent: one, enough for chains in one bucket, for chains in many, or for marks. Way 0 lends none: it
+// makes the calls without an index.
 fn lent(way: u8, records: usize, settings: u32) -> usize {
     match way {
-        0 => 0,
         1 => 1,
         2 => records.saturating_add(1),
         3 => records.saturating_mul(3),
