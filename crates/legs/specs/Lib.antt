@@ -1,5 +1,6 @@
 pub mod Kinds
 pub mod Layers
+pub mod Asked
 pub mod Filling
 pub mod Legs
 pub mod Laws

@@ -5,6 +5,7 @@
 ghost use Rattle.legs.specs.Laws.{LegsLawful};
 ghost use Rattle.legs.specs.PlanLaws.{PlansLawful};
 
+pub mod leg;
 pub mod relayed;
 
 // Carries the laws of legs: layers are what the rules say, a setting is in at most one, three layers are enough to

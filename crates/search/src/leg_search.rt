@@ -1,17 +1,19 @@
 // The search of one leg, over any plant and any kind of record: the call that measures and plans are made of.
 ghost use Rattle.std.specs.Prelude.{◌≡◌, ◌<◌, ◌≤◌, length};
+ghost use Rattle.legs.specs.Asked.{asked};
 ghost use Rattle.legs.specs.Legs.{need};
 ghost use Rattle.search.specs.Records.{kind};
-ghost use Rattle.search.specs.Leg.{leg, leg_of};
+ghost use Rattle.search.specs.Leg.{leg_of};
 ghost use Rattle.search.specs.Walked.{RunThrough};
 ghost use Rattle.search.specs.Answered.{LegAnswer, leg_leaves, Searched, zeroed};
 
 use crate::chains::Chains;
-use crate::leg::Leg;
+use crate::leg::Leg as Halved;
 use crate::lookup::Scan;
 use crate::marks::Marks;
 use crate::one_leg::{Walk, blank_front, walk_leg};
 use crate::record::Record;
+use legs::leg::Leg;
 use plant::plant::Plant;
 use plant::refusal::Refusal;
 
@@ -26,60 +28,44 @@ pub struct Reached<R> {
     pub record: R,
 }
 
-// Searches the leg from start to target within the bound; relays are taken at the depth `half`. Refused where the start
-// or the target is no setting, the bound is above 255, the leg needs more records than there are, or has no length. It
-// leaves zero in the records that it needs, and the others as they were; for the first two refusals all of them.
+// Searches the leg; relays are taken at the depth `half`. Refused where the start or the target is no setting, the bound is
+// above 255, the leg needs more records than there are, or has no length. It leaves zero in the records that it needs, and
+// the others as they were; for the first two refusals all of them. The index is memory for looking settings up, of any
+// length, none among them: it decides how long the search takes, and nothing else. What it holds before does not matter,
+// and what it holds after is open.
 pub fn search_leg<P: Plant, R: Record>(
     plant: &P,
-    start: u32,
-    target: u32,
-    bound: u16,
-    half: u16,
-    records: &mut [R],
-) -> Result<Reached<R>, Refusal>
-    ensures answer { LegAnswer (P.meaning plant.now) (kind R.Record.tells R.Record.opens R.Record.carries half) (leg start target bound) (length records.old) result }
-    ensures records { records.new ≡ leg_leaves R.Record.blank (P.meaning plant.now) (leg start target bound) records.old }
-{
-    search_leg_with_index(plant, start, target, bound, half, records, &mut [])
-}
-
-// The same, with memory for looking settings up, the index, of any length: it decides how long the search takes, and
-// nothing else. What it holds before does not matter, and what it holds after is open.
-pub fn search_leg_with_index<P: Plant, R: Record>(
-    plant: &P,
-    start: u32,
-    target: u32,
-    bound: u16,
+    leg: Leg,
     half: u16,
     records: &mut [R],
     index: &mut [u32],
 ) -> Result<Reached<R>, Refusal>
-    ensures answer { LegAnswer (P.meaning plant.now) (kind R.Record.tells R.Record.opens R.Record.carries half) (leg start target bound) (length records.old) result }
-    ensures records { records.new ≡ leg_leaves R.Record.blank (P.meaning plant.now) (leg start target bound) records.old }
+    ensures answer { LegAnswer (P.meaning plant.now) (kind R.Record.tells R.Record.opens R.Record.carries half) (asked leg) (length records.old) result }
+    ensures records { records.new ≡ leg_leaves R.Record.blank (P.meaning plant.now) (asked leg) records.old }
 {
     let settings = plant.settings();
-    if start >= settings {
+    if leg.start >= settings {
         return Err(Refusal::NoSuchSetting);
     }
-    if target >= settings {
+    if leg.target >= settings {
         return Err(Refusal::NoSuchSetting);
     }
-    if bound > MOST {
+    if leg.bound > MOST {
         return Err(Refusal::Bound);
     }
-    let leg = Leg {
-        start,
-        target,
-        bound,
+    let halved = Halved {
+        start: leg.start,
+        target: leg.target,
+        bound: leg.bound,
         half,
     };
-    search_within(plant, &leg, records, index)
+    search_within(plant, &halved, records, index)
 }
 
 // The search, where start, target and bound are in range.
 fn search_within<P: Plant, R: Record>(
     plant: &P,
-    leg: &Leg,
+    leg: &Halved,
     records: &mut [R],
     index: &mut [u32],
 ) -> Result<Reached<R>, Refusal>
@@ -116,7 +102,7 @@ fn search_within<P: Plant, R: Record>(
 // lend two to three times as many numbers as records.
 fn walk_by<P: Plant, R: Record>(
     plant: &P,
-    leg: &Leg,
+    leg: &Halved,
     records: &mut [R],
     index: &mut [u32],
 ) -> Option<Walk<R>>
