@@ -1,12 +1,10 @@
 -- The answer of a plan from that of its first leg and of the fetch of its length. Over any lawful meaning.
-use Rattle.std.proofs.Common.{◌≡◌, ℕ, ◌+◌, ◌-◌, ◌<◌, ◌≤◌, Bool, true, false, ◌||◌, ltb, List, ◌∷◌, ◌++◌, length, take, drop, replicate, Some, None, Ok, Err, Option, sym, refl, ap, ◌∙◌, arith}
+use Rattle.std.proofs.Common.{◌≡◌, ℕ, ◌+◌, ◌-◌, ◌<◌, ◌≤◌, Bool, true, false, ◌||◌, ltb, List, ◌∷◌, ◌++◌, length, take, drop, replicate, Some, None, Ok, Option, sym, refl, ap, ◌∙◌, arith}
 use borrow.Rule.Slice.PartMut.{post_of}
 use Rattle.std.proofs.lemmas.List.{take_at, drop-replicate}
-use Rattle.std.proofs.lemmas.Bool.{ltb-true, ltb-false, lt-ltb, le-ltb, or_from, true≢false}
+use Rattle.std.proofs.lemmas.Bool.{le-ltb, or_from, true≢false}
 use Rattle.plant.specs.Meaning.{Meaning}
 use Rattle.plant.specs.Laws.{Lawful}
-use Rattle.plant.specs.declared.refusal.Refusal.{Refusal}
-use Rattle.plant.specs.declared.refusal.Refusal.TheVariants.{NoSuchSetting, Bound, Overfull, OutOfReach}
 use Rattle.legs.specs.Layers.{Leg}
 use Rattle.legs.specs.Legs.{leg_length, expanded, need}
 use Rattle.legs.specs.Lists.{Distance}
@@ -36,30 +34,7 @@ accepted {A} false false false (Some y) p a e =
     let same : b ≡ a = cc in
     record { inside = refl; low = refl; roomy = refl; found = ap (λ c. Some c.found) same; counted = ap (λ c. c.count) same }
 
--- two searches with one range: the second is refused as the first was
-alike : {A B : Type 0} (o h f f' : Bool) (x : Option A) (y : Option B) (p q : ℕ) (e : Refusal) → (f ≡ true → f' ≡ true) → (f ≡ false → x ≡ None → (f' ≡ false) × (y ≡ None)) → answer o h f x p ≡ Err e → answer o h f' y q ≡ Err e
-alike true h f f' x y p q e full none r = let is : e ≡ NoSuchSetting = cc in ap Err (sym is)
-alike false true f f' x y p q e full none r = let is : e ≡ Bound = cc in ap Err (sym is)
-alike false false true f' x y p q e full none r = let is : e ≡ Overfull = cc in ap (λ b. answer false false b y q) (full refl) ∙ ap Err (sym is)
-alike false false false f' None y p q e full none r =
-    let is : e ≡ OutOfReach = cc in
-    ap (λ b. answer false false b y q) (none refl refl).0 ∙ ap (λ o. answer false false false o q) (none refl refl).1 ∙ ap Err (sym is)
-alike false false false f' (Some a) y p q e full none r = let clash : ◌≡◌ {A = ℕ} 0 1 = cc in absurd (omega arith)
-
 module _ (m : Meaning) (lawful : Lawful m) (g : Leg) (records : ℕ) where
-  -- a first leg that is refused
-  pub planned_refused : (e : Refusal) → measured m g records ≡ Err e → planned m g records ≡ Err e
-  planned_refused e r =
-      alike (outside m g) (too_high g) (ltb records (need m g)) (ltb records (most_need m (plan_legs m g))) (leg_length m g) (plan_list m g) (expanded m g) (count m (plan_legs m g)) e
-      (λ full. lt-ltb records (most_need m (plan_legs m g)) (omega (arith, ltb-true records (need m g) full)))
-      (λ enough none. (alone enough none, ap (listed m g.start g.target) none))
-      r
-    where
-      alone : ltb records (need m g) ≡ false → leg_length m g ≡ None → ltb records (most_need m (plan_legs m g)) ≡ false
-      alone enough none =
-          let one = ap (λ x. most_need m (g ∷ fetched m g.start g.target x)) none in
-          le-ltb records (most_need m (plan_legs m g)) (omega (arith, one, ltb-false records (need m g) enough))
-
   module _ (a : Counted ℕ) (found : measured m g records ≡ Ok a) where
     first : Accepted (outside m g) (too_high g) (ltb records (need m g)) (leg_length m g) (expanded m g) a
     first = accepted (outside m g) (too_high g) (ltb records (need m g)) (leg_length m g) (expanded m g) a found
@@ -101,12 +76,6 @@ module _ (m : Meaning) (lawful : Lawful m) (g : Leg) (records : ℕ) where
         in_range ∙ ap (λ b. answer false false b (plan_list m g) (count m (plan_legs m g))) enough
         ∙ ap (λ x. answer false false false x (count m (plan_legs m g))) (ap (listed m g.start g.target) first.found ∙ f.0)
         ∙ ap (λ k. Ok (record { found = list; count = k })) number
-
-    -- or a leg of the fetch needs more records
-    pub planned_overfull : (list : List ℕ) → Fetched m a.found g.start g.target records list None → planned m g records ≡ Err Overfull
-    planned_overfull list f =
-        let short : ltb records (most_need m (plan_legs m g)) ≡ true = lt-ltb records (most_need m (plan_legs m g)) (omega (arith, ap (most_need m) legs_are, f)) in
-        in_range ∙ ap (λ b. answer false false b (plan_list m g) (count m (plan_legs m g))) short
 
 -- a list written at the front of zeros
 module _ (n : ℕ) (list place : List ℕ) (zeros : place ≡ replicate 255 0) (low : n ≤ 255) (long : length list ≡ n) where

@@ -1,3 +1,2 @@
 pub mod Fetching
-pub mod Joining
 pub mod Answering

@@ -4,15 +4,15 @@ ghost use Rattle.legs.specs.Lists.{Distance};
 ghost use Rattle.plan.specs.Fetched.{Fetched};
 
 use crate::lowest::lowest_step;
+use legs::leg::Leg;
 use legs::relayed::Relayed;
 use plant::plant::Plant;
-use search::leg_search::search_leg_with_index;
+use search::leg_search::search_leg;
 
-// Writes the earliest list of `count` operations, which is the least length, from start to target; answers the settings
-// expanded, or none where a leg needs more records than there are.
+// Fills the list, which is as long as the least length, with the earliest operations from start to target; answers the
+// settings expanded, or none where a leg needs more records than there are.
 pub(crate) fn fetch<P: Plant>(
     plant: &P,
-    count: usize,
     start: u32,
     target: u32,
     records: &mut [Relayed],
@@ -21,55 +21,28 @@ pub(crate) fn fetch<P: Plant>(
 ) -> Option<u64>
     requires start { start < (P.meaning plant.now).settings }
     requires target { target < (P.meaning plant.now).settings }
-    requires short { count ≤ 255 }
-    requires long { length list.old ≡ count }
-    requires distance { Distance (P.meaning plant.now) count start target }
-    ensures { Fetched (P.meaning plant.now) count start target (length records.old) list.new result }
+    requires short { length list.old ≤ 255 }
+    requires distance { Distance (P.meaning plant.now) (length list.old) start target }
+    ensures { Fetched (P.meaning plant.now) (length list.old) start target (length records.old) list.new result }
 {
+    let count = list.len();
     if count == 0 {
         return Some(0);
     }
     if count == 1 {
-        let Some(operation) = lowest_step(plant, start, target) else {
-            return Some(0);
-        };
-        list[0] = operation;
+        list[0] = lowest_step(plant, start, target)?;
         return Some(0);
     }
     let half = count / 2;
-    let Ok(reached) = search_leg_with_index(
-        plant,
+    let leg = Leg {
         start,
         target,
-        count as u16,
-        half as u16,
-        records,
-        index,
-    ) else {
-        return None;
+        bound: count as u16,
     };
+    let reached = search_leg(plant, leg, half as u16, records, index).ok()?;
     let relay = reached.record.relay;
-    let Some(first) = fetch(
-        plant,
-        half,
-        start,
-        relay,
-        records,
-        index,
-        &mut list[0..half],
-    ) else {
-        return None;
-    };
-    let Some(second) = fetch(
-        plant,
-        count - half,
-        relay,
-        target,
-        records,
-        index,
-        &mut list[half..count],
-    ) else {
-        return None;
-    };
+    let (front, back) = list.split_at_mut(half);
+    let first = fetch(plant, start, relay, records, index, front)?;
+    let second = fetch(plant, relay, target, records, index, back)?;
     Some(reached.expanded + first + second)
 }

@@ -8,12 +8,7 @@ use plant::plant::Plant;
 pub(crate) fn lowest_step<P: Plant>(plant: &P, start: u32, target: u32) -> Option<u16>
     ensures { Lowest (P.meaning plant.now) start target result }
 {
-    for operation in 0..plant.operations() {
-        if steps_to(plant, start, operation, target) {
-            return Some(operation);
-        }
-    }
-    None
+    (0..plant.operations()).find(|operation| steps_to(plant, start, *operation, target))
 }
 
 // Whether the operation steps from start to target.

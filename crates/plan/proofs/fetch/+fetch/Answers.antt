@@ -1,192 +1,162 @@
 -- Lists of none and one operation need no leg; a longer one is its two halves.
-use Rattle.std.proofs.Common.{◌≡◌, ℕ, ◌+◌, ◌-◌, ◌/◌, ◌≤◌, length, Some, None, ◌∙◌, subst, arith, length-take}
-use Rattle.legs.specs.Answers.{Counted}
+use Rattle.std.proofs.Common.{◌≡◌, ◌-◌, ◌/◌, ◌≤◌, length, Some, None, refl, ◌∙◌, subst, arith}
+use Rattle.legs.specs.Plans.{fetch_leg}
+use Rattle.legs.specs.Relays.{relays}
 use Rattle.plan.specs.Fetched.{Fetched}
-use Rattle.plan.proofs.Fetching.{fetched_none, fetched_one, some_lowest, leg_overfull, leg_few, relay_halfway, halfway_in, first_distance, second_distance, first_overfull, second_overfull, fetched_both}
-use Rattle.plan.proofs.Joining.{rest_long, joined}
+use Rattle.plan.proofs.Fetching.{Halves, fetched_none, fetched_one, some_lowest, leg_refused, leg_answered, leg_overfull, leg_few, relay_in, first_distance, second_distance, first_overfull, second_overfull, fetched_both}
 use Rattle.plan.proofs.fetch.+fetch.Goals as goal
 
 pub returns-then-count-eq0 : goal.returns-then-count-eq0
 returns-then-count-eq0 g t c =
-    let m = g.P.Plant.meaning c.args.plant.now in
-    let lawful = g.met.P.Plant.lawful c.args.plant.now in
-    let n = c.args.count in
-    let s = c.args.start in
-    let goal = c.args.target in
-    let records = length c.args.records.now in
-    fetched_none m lawful n s goal records c.args.list.now c.if-count-eq0.true c.requires.long c.requires.distance
+    fetched_none (g.P.Plant.meaning c.args.plant.now) (g.met.P.Plant.lawful c.args.plant.now) _ c.args.start c.args.target (length c.args.records.now) c.args.list.now c.if-count-eq0.true refl c.requires.distance
 
-pub returns-in_default : goal.returns-in_default
-returns-in_default g t c =
-    let m = g.P.Plant.meaning c.args.plant.now in
-    let lawful = g.met.P.Plant.lawful c.args.plant.now in
-    let n = c.args.count in
-    let s = c.args.start in
-    let goal = c.args.target in
-    let records = length c.args.records.now in
-    absurd (some_lowest m lawful n s goal c.if-count-eq1.true c.requires.distance c.in_default.ensures)
+pub returns-in_err-list : goal.returns-in_err-list
+returns-in_err-list g t c =
+    absurd (some_lowest (g.P.Plant.meaning c.args.plant.now) (g.met.P.Plant.lawful c.args.plant.now) _ c.args.start c.args.target c.if-count-eq1.true c.requires.distance c.in_err-list.ensures)
 
 pub returns-then-count-eq1 : goal.returns-then-count-eq1
 returns-then-count-eq1 g t c =
-    let m = g.P.Plant.meaning c.args.plant.now in
-    let lawful = g.met.P.Plant.lawful c.args.plant.now in
-    let n = c.args.count in
-    let s = c.args.start in
-    let goal = c.args.target in
-    let records = length c.args.records.now in
-    fetched_one m lawful n s goal records c.in-Some.operation c.args.list.now c.if-count-eq1.true c.requires.long c.in-Some.ensures
+    fetched_one (g.P.Plant.meaning c.args.plant.now) (g.met.P.Plant.lawful c.args.plant.now) _ c.args.start c.args.target (length c.args.records.now) c.in_ok-list.field-0 c.args.list.now c.if-count-eq1.true refl c.in_ok-list.ensures
 
-pub returns-in_default-search_leg_with_index : goal.returns-in_default-search_leg_with_index
-returns-in_default-search_leg_with_index g t c =
+pub returns-in_err-reached : goal.returns-in_err-reached
+returns-in_err-reached g t c =
     let m = g.P.Plant.meaning c.args.plant.now in
-    let lawful = g.met.P.Plant.lawful c.args.plant.now in
-    let n = c.args.count in
+    let n = length c.args.list.now in
     let s = c.args.start in
-    let goal = c.args.target in
+    let u = c.args.target in
     let records = length c.args.records.now in
     let two : 2 ≤ n = omega (arith, c.if-count-eq0.false, c.if-count-eq1.false) in
-    leg_overfull m lawful n s goal records two c.requires.short c.requires.start c.requires.target c.requires.distance c.in_default-search_leg_with_index.field-0 c.in_default-search_leg_with_index.ensures.answer
+    let why = leg_refused m (relays n) (fetch_leg n s u) records c.search_leg.result c.search_leg.ensures.answer c.in_err-reached.ensures.value in
+    rw c.from_residual-in_err-reached.ensures (leg_overfull m (g.met.P.Plant.lawful c.args.plant.now) n s u records two c.requires.short c.requires.start c.requires.target c.requires.distance why.0 why.1)
 
 pub fetch-requires : goal.fetch-requires
 fetch-requires g t c κs within =
     let m = g.P.Plant.meaning c.args.plant.now in
     let lawful = g.met.P.Plant.lawful c.args.plant.now in
-    let n = c.args.count in
-    let s = c.args.start in
-    let goal = c.args.target in
+    let n = length c.args.list.now in
     let records = length c.args.records.now in
-    let two : 2 ≤ n = omega (arith, c.if-count-eq0.false, c.if-count-eq1.false) in
-    let a : Counted ℕ = record { found = c.in-Ok.reached.length; count = c.in-Ok.reached.expanded } in
-    let found = c.in-Ok.ensures.answer.0 in
-    let half = relay_halfway m lawful n s goal records two c.requires.short c.requires.start c.requires.target c.requires.distance a found c.in-Ok.reached.record c.in-Ok.ensures.answer.1.0 c.in-Ok.ensures.answer.1.1 in
-    let relay = c.in-Ok.reached.record.relay in (
-      omega arith,
-      (
-        within,
-        (
-          c.requires.start,
-          (
-            halfway_in m lawful n s goal records two c.requires.short c.requires.start c.requires.target c.requires.distance a found relay half,
-            (
-              omega (arith, c.requires.short),
-              (simp length-take (omega (arith, c.requires.long)), first_distance m lawful n s goal records two c.requires.short c.requires.start c.requires.target c.requires.distance a found relay half),
-            ),
-          ),
-        ),
-      ),
-    )
+    let r = c.in_ok-reached.reached in
+    let h : Halves m n c.args.start c.args.target records r = record {
+      two = omega (arith, c.if-count-eq0.false, c.if-count-eq1.false);
+      few = c.requires.short;
+      start = c.requires.start;
+      target = c.requires.target;
+      distance = c.requires.distance;
+      answer = leg_answered m (relays n) (fetch_leg n c.args.start c.args.target) records c.search_leg.result r c.search_leg.ensures.answer c.in_ok-reached.ensures.value;
+    } in
+    let front : length c.split_at_mut-front.result.0.now ≡ n / 2 = c.split_at_mut-front.ensures.front_len in
+    (omega (arith, h.two), (within, (c.requires.start, (relay_in lawful h, (omega (arith, h.few), first_distance lawful h _ front)))))
 
-pub returns-in_default-fetch : goal.returns-in_default-fetch
-returns-in_default-fetch g t c =
+pub returns-in_err-first : goal.returns-in_err-first
+returns-in_err-first g t c =
     let m = g.P.Plant.meaning c.args.plant.now in
     let lawful = g.met.P.Plant.lawful c.args.plant.now in
-    let n = c.args.count in
-    let s = c.args.start in
-    let goal = c.args.target in
+    let n = length c.args.list.now in
     let records = length c.args.records.now in
-    let two : 2 ≤ n = omega (arith, c.if-count-eq0.false, c.if-count-eq1.false) in
-    let a : Counted ℕ = record { found = c.in-Ok.reached.length; count = c.in-Ok.reached.expanded } in
-    let found = c.in-Ok.ensures.answer.0 in
-    let half = relay_halfway m lawful n s goal records two c.requires.short c.requires.start c.requires.target c.requires.distance a found c.in-Ok.reached.record c.in-Ok.ensures.answer.1.0 c.in-Ok.ensures.answer.1.1 in
-    let relay = c.in-Ok.reached.record.relay in
-    first_overfull m lawful n s goal records two c.requires.short c.requires.start c.requires.target c.requires.distance a found relay c.fetch.new.list half (subst (λ k. Fetched m (n / 2) s relay k c.fetch.new.list None) c.search_leg_with_index.auto.records c.in_default-fetch.ensures)
+    let r = c.in_ok-reached.reached in
+    let h : Halves m n c.args.start c.args.target records r = record {
+      two = omega (arith, c.if-count-eq0.false, c.if-count-eq1.false);
+      few = c.requires.short;
+      start = c.requires.start;
+      target = c.requires.target;
+      distance = c.requires.distance;
+      answer = leg_answered m (relays n) (fetch_leg n c.args.start c.args.target) records c.search_leg.result r c.search_leg.ensures.answer c.in_ok-reached.ensures.value;
+    } in
+    let front : length c.split_at_mut-front.result.0.now ≡ n / 2 = c.split_at_mut-front.ensures.front_len in
+    rw c.from_residual-in_err-first.ensures (first_overfull lawful h _ c.fetch.new.list front (subst (λ k. Fetched m (length c.split_at_mut-front.result.0.now) c.args.start r.record.relay k c.fetch.new.list None) c.search_leg.auto.records c.in_err-first.ensures))
 
 pub fetch-requires-2 : goal.fetch-requires-2
 fetch-requires-2 g t c κs within =
     let m = g.P.Plant.meaning c.args.plant.now in
     let lawful = g.met.P.Plant.lawful c.args.plant.now in
-    let n = c.args.count in
-    let s = c.args.start in
-    let goal = c.args.target in
+    let n = length c.args.list.now in
     let records = length c.args.records.now in
-    let two : 2 ≤ n = omega (arith, c.if-count-eq0.false, c.if-count-eq1.false) in
-    let a : Counted ℕ = record { found = c.in-Ok.reached.length; count = c.in-Ok.reached.expanded } in
-    let found = c.in-Ok.ensures.answer.0 in
-    let half = relay_halfway m lawful n s goal records two c.requires.short c.requires.start c.requires.target c.requires.distance a found c.in-Ok.reached.record c.in-Ok.ensures.answer.1.0 c.in-Ok.ensures.answer.1.1 in
-    let relay = c.in-Ok.reached.record.relay in
-    let front : length c.fetch.new.list ≡ n / 2 = c.fetch.auto.list ∙ simp length-take (omega (arith, c.requires.long)) in
-    let low : n / 2 ≤ n = omega arith in (
-      omega arith,
-      (
-        within,
-        (
-          halfway_in m lawful n s goal records two c.requires.short c.requires.start c.requires.target c.requires.distance a found relay half,
-          (
-            c.requires.target,
-            (
-              omega (arith, c.requires.short),
-              (rest_long (n / 2) n c.fetch.new.list c.args.list.now low front c.requires.long, second_distance m lawful n s goal records two c.requires.short c.requires.start c.requires.target c.requires.distance a found relay half),
-            ),
-          ),
-        ),
-      ),
-    )
+    let r = c.in_ok-reached.reached in
+    let h : Halves m n c.args.start c.args.target records r = record {
+      two = omega (arith, c.if-count-eq0.false, c.if-count-eq1.false);
+      few = c.requires.short;
+      start = c.requires.start;
+      target = c.requires.target;
+      distance = c.requires.distance;
+      answer = leg_answered m (relays n) (fetch_leg n c.args.start c.args.target) records c.search_leg.result r c.search_leg.ensures.answer c.in_ok-reached.ensures.value;
+    } in
+    let back : length c.split_at_mut-front.result.1.now ≡ n - n / 2 = omega (arith, c.split_at_mut-front.ensures.back_len) in
+    (omega (arith, h.two), (within, (relay_in lawful h, (c.requires.target, (omega (arith, h.few), second_distance lawful h _ back)))))
 
-pub returns-in_default-fetch-2 : goal.returns-in_default-fetch-2
-returns-in_default-fetch-2 g t c =
+pub returns-in_err-second : goal.returns-in_err-second
+returns-in_err-second g t c =
     let m = g.P.Plant.meaning c.args.plant.now in
     let lawful = g.met.P.Plant.lawful c.args.plant.now in
-    let n = c.args.count in
-    let s = c.args.start in
-    let goal = c.args.target in
+    let n = length c.args.list.now in
     let records = length c.args.records.now in
-    let two : 2 ≤ n = omega (arith, c.if-count-eq0.false, c.if-count-eq1.false) in
-    let a : Counted ℕ = record { found = c.in-Ok.reached.length; count = c.in-Ok.reached.expanded } in
-    let found = c.in-Ok.ensures.answer.0 in
-    let half = relay_halfway m lawful n s goal records two c.requires.short c.requires.start c.requires.target c.requires.distance a found c.in-Ok.reached.record c.in-Ok.ensures.answer.1.0 c.in-Ok.ensures.answer.1.1 in
-    let relay = c.in-Ok.reached.record.relay in
-    let same = c.fetch.auto.records ∙ c.search_leg_with_index.auto.records in
-    second_overfull m lawful n s goal records two c.requires.short c.requires.start c.requires.target c.requires.distance a found relay c.fetch-2.new.list half (subst (λ k. Fetched m (n - n / 2) relay goal k c.fetch-2.new.list None) same c.in_default-fetch-2.ensures)
+    let r = c.in_ok-reached.reached in
+    let h : Halves m n c.args.start c.args.target records r = record {
+      two = omega (arith, c.if-count-eq0.false, c.if-count-eq1.false);
+      few = c.requires.short;
+      start = c.requires.start;
+      target = c.requires.target;
+      distance = c.requires.distance;
+      answer = leg_answered m (relays n) (fetch_leg n c.args.start c.args.target) records c.search_leg.result r c.search_leg.ensures.answer c.in_ok-reached.ensures.value;
+    } in
+    let back : length c.split_at_mut-front.result.1.now ≡ n - n / 2 = omega (arith, c.split_at_mut-front.ensures.back_len) in
+    let same = c.fetch.auto.records ∙ c.search_leg.auto.records in
+    rw c.from_residual-in_err-second.ensures (second_overfull lawful h _ c.fetch-2.new.list back (subst (λ k. Fetched m (length c.split_at_mut-front.result.1.now) r.record.relay c.args.target k c.fetch-2.new.list None) same c.in_err-second.ensures))
 
 pub overflow_add-result : goal.overflow_add-result
 overflow_add-result g t c =
     let m = g.P.Plant.meaning c.args.plant.now in
     let lawful = g.met.P.Plant.lawful c.args.plant.now in
-    let n = c.args.count in
-    let s = c.args.start in
-    let goal = c.args.target in
+    let n = length c.args.list.now in
     let records = length c.args.records.now in
-    let two : 2 ≤ n = omega (arith, c.if-count-eq0.false, c.if-count-eq1.false) in
-    let a : Counted ℕ = record { found = c.in-Ok.reached.length; count = c.in-Ok.reached.expanded } in
-    let found = c.in-Ok.ensures.answer.0 in
-    let half = relay_halfway m lawful n s goal records two c.requires.short c.requires.start c.requires.target c.requires.distance a found c.in-Ok.reached.record c.in-Ok.ensures.answer.1.0 c.in-Ok.ensures.answer.1.1 in
-    let relay = c.in-Ok.reached.record.relay in
-    let few = leg_few m lawful n s goal records two c.requires.short c.requires.start c.requires.target c.requires.distance a found in
-    omega (arith, few, c.in-Some-fetch.ensures.3, c.requires.short)
+    let r = c.in_ok-reached.reached in
+    let h : Halves m n c.args.start c.args.target records r = record {
+      two = omega (arith, c.if-count-eq0.false, c.if-count-eq1.false);
+      few = c.requires.short;
+      start = c.requires.start;
+      target = c.requires.target;
+      distance = c.requires.distance;
+      answer = leg_answered m (relays n) (fetch_leg n c.args.start c.args.target) records c.search_leg.result r c.search_leg.ensures.answer c.in_ok-reached.ensures.value;
+    } in
+    let front : length c.split_at_mut-front.result.0.now ≡ n / 2 = c.split_at_mut-front.ensures.front_len in
+    omega (arith, leg_few lawful h, c.in_ok-first.ensures.3, h.few)
 
 pub overflow_add-result-2 : goal.overflow_add-result-2
 overflow_add-result-2 g t c =
     let m = g.P.Plant.meaning c.args.plant.now in
     let lawful = g.met.P.Plant.lawful c.args.plant.now in
-    let n = c.args.count in
-    let s = c.args.start in
-    let goal = c.args.target in
+    let n = length c.args.list.now in
     let records = length c.args.records.now in
-    let two : 2 ≤ n = omega (arith, c.if-count-eq0.false, c.if-count-eq1.false) in
-    let a : Counted ℕ = record { found = c.in-Ok.reached.length; count = c.in-Ok.reached.expanded } in
-    let found = c.in-Ok.ensures.answer.0 in
-    let half = relay_halfway m lawful n s goal records two c.requires.short c.requires.start c.requires.target c.requires.distance a found c.in-Ok.reached.record c.in-Ok.ensures.answer.1.0 c.in-Ok.ensures.answer.1.1 in
-    let relay = c.in-Ok.reached.record.relay in
-    let few = leg_few m lawful n s goal records two c.requires.short c.requires.start c.requires.target c.requires.distance a found in
-    omega (arith, few, c.in-Some-fetch.ensures.3, c.in-Some-fetch-2.ensures.3, c.requires.short)
+    let r = c.in_ok-reached.reached in
+    let h : Halves m n c.args.start c.args.target records r = record {
+      two = omega (arith, c.if-count-eq0.false, c.if-count-eq1.false);
+      few = c.requires.short;
+      start = c.requires.start;
+      target = c.requires.target;
+      distance = c.requires.distance;
+      answer = leg_answered m (relays n) (fetch_leg n c.args.start c.args.target) records c.search_leg.result r c.search_leg.ensures.answer c.in_ok-reached.ensures.value;
+    } in
+    let front : length c.split_at_mut-front.result.0.now ≡ n / 2 = c.split_at_mut-front.ensures.front_len in
+    let back : length c.split_at_mut-front.result.1.now ≡ n - n / 2 = omega (arith, c.split_at_mut-front.ensures.back_len) in
+    omega (arith, leg_few lawful h, c.in_ok-first.ensures.3, c.in_ok-second.ensures.3, h.few)
 
 pub returns : goal.returns
 returns g t c =
     let m = g.P.Plant.meaning c.args.plant.now in
     let lawful = g.met.P.Plant.lawful c.args.plant.now in
-    let n = c.args.count in
-    let s = c.args.start in
-    let goal = c.args.target in
+    let n = length c.args.list.now in
     let records = length c.args.records.now in
-    let two : 2 ≤ n = omega (arith, c.if-count-eq0.false, c.if-count-eq1.false) in
-    let a : Counted ℕ = record { found = c.in-Ok.reached.length; count = c.in-Ok.reached.expanded } in
-    let found = c.in-Ok.ensures.answer.0 in
-    let half = relay_halfway m lawful n s goal records two c.requires.short c.requires.start c.requires.target c.requires.distance a found c.in-Ok.reached.record c.in-Ok.ensures.answer.1.0 c.in-Ok.ensures.answer.1.1 in
-    let relay = c.in-Ok.reached.record.relay in
-    let same = c.fetch.auto.records ∙ c.search_leg_with_index.auto.records in
-    let first = subst (λ k. Fetched m (n / 2) s relay k c.fetch.new.list (Some c.in-Some-fetch.first)) c.search_leg_with_index.auto.records c.in-Some-fetch.ensures in
-    let second = subst (λ k. Fetched m (n - n / 2) relay goal k c.fetch-2.new.list (Some c.in-Some-fetch-2.second)) same c.in-Some-fetch-2.ensures in
-    let front : length c.fetch.new.list ≡ n / 2 = c.fetch.auto.list ∙ simp length-take (omega (arith, c.requires.long)) in
-    let low : n / 2 ≤ n = omega arith in
-    let both = fetched_both m lawful n s goal records two c.requires.short c.requires.start c.requires.target c.requires.distance a found relay c.in-Some-fetch.first c.in-Some-fetch-2.second c.fetch.new.list c.fetch-2.new.list half first second in
-    subst (λ xs. Fetched m n s goal records xs (Some (a.count + c.in-Some-fetch.first + c.in-Some-fetch-2.second))) (joined (n / 2) n c.fetch.new.list c.args.list.now low front c.requires.long c.fetch-2.new.list) both
+    let r = c.in_ok-reached.reached in
+    let h : Halves m n c.args.start c.args.target records r = record {
+      two = omega (arith, c.if-count-eq0.false, c.if-count-eq1.false);
+      few = c.requires.short;
+      start = c.requires.start;
+      target = c.requires.target;
+      distance = c.requires.distance;
+      answer = leg_answered m (relays n) (fetch_leg n c.args.start c.args.target) records c.search_leg.result r c.search_leg.ensures.answer c.in_ok-reached.ensures.value;
+    } in
+    let front : length c.split_at_mut-front.result.0.now ≡ n / 2 = c.split_at_mut-front.ensures.front_len in
+    let back : length c.split_at_mut-front.result.1.now ≡ n - n / 2 = omega (arith, c.split_at_mut-front.ensures.back_len) in
+    let same = c.fetch.auto.records ∙ c.search_leg.auto.records in
+    let one = subst (λ k. Fetched m (length c.split_at_mut-front.result.0.now) c.args.start r.record.relay k c.fetch.new.list (Some c.in_ok-first.first)) c.search_leg.auto.records c.in_ok-first.ensures in
+    let other = subst (λ k. Fetched m (length c.split_at_mut-front.result.1.now) r.record.relay c.args.target k c.fetch-2.new.list (Some c.in_ok-second.second)) same c.in_ok-second.ensures in
+    fetched_both lawful h _ _ c.in_ok-first.first c.in_ok-second.second c.fetch.new.list c.fetch-2.new.list front back one other

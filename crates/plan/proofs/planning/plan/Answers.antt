@@ -2,16 +2,16 @@
 use Rattle.std.proofs.Common.{ltb, length, replicate, refl, ap, ◌∙◌}
 use Rattle.legs.specs.Plans.{plan_legs, most_need, plan_list, count}
 use Rattle.legs.proofs.PlanLaws.{plans_lawful}
-use Rattle.search.specs.Leg.{leg}
+use Rattle.legs.specs.Asked.{asked}
 use Rattle.search.specs.Records.{relay_blank}
 use Rattle.search.proofs.Left.{left_found, left_refused}
-use Rattle.plan.proofs.planning.plan_with_index.Goals as goal
+use Rattle.plan.proofs.planning.plan.Goals as goal
 
 pub returns-in-Ok : goal.returns-in-Ok
 returns-in-Ok g c =
     let m = g.P.Plant.meaning c.args.plant.now in
     let lawful = g.met.P.Plant.lawful c.args.plant.now in
-    let l = leg c.args.start c.args.target c.args.bound in
+    let l = asked c.args.leg in
     let rs = c.args.records.now in
     let found = c.in-Ok.ensures.found in
     record {
@@ -26,7 +26,7 @@ pub returns-in-Err : goal.returns-in-Err
 returns-in-Err g c =
     let m = g.P.Plant.meaning c.args.plant.now in
     let lawful = g.met.P.Plant.lawful c.args.plant.now in
-    let l = leg c.args.start c.args.target c.args.bound in
+    let l = asked c.args.leg in
     let rs = c.args.records.now in
     let refused = c.in-Err.ensures.found in
     record {
