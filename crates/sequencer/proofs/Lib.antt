@@ -1,4 +1,0 @@
-pub mod Between
-pub mod Touching
-pub mod Filling
-pub mod Calls

@@ -1,5 +1,6 @@
 -- What is told of the list in hand. Assumes nothing.
-use Rattle.std.specs.Prelude.{ℕ, zero, suc, List, [], ◌∷◌, length, Some, None, Option}
+use Rattle.std.specs.Prelude.{ℕ, length, Some, None, Option}
+use Rattle.std.specs.List.{slice_get}
 use Rattle.promise.specs.Readings.{Work}
 
 abbrev pub target_of : Option Work → Option ℕ
@@ -11,12 +12,7 @@ abbrev pub length_of : Option Work → Option ℕ
 length_of None = None
 length_of (Some w) = Some (length w.to_do)
 
--- what stands at a place of the list, and none past its end
-abbrev pub at_place : List ℕ → ℕ → Option ℕ
-at_place [] i = None
-at_place (o ∷ os) zero = Some o
-at_place (o ∷ os) (suc i) = at_place os i
-
+-- the operation at a place of the list, and none past its end
 abbrev pub operation_of : Option Work → ℕ → Option ℕ
 operation_of None i = None
-operation_of (Some w) i = at_place w.to_do i
+operation_of (Some w) i = slice_get w.to_do i

@@ -1,5 +1,5 @@
 -- The list that a list table holds, and what becomes of it when an operation is done. Assumes nothing.
-use Rattle.std.specs.Prelude.{◌≡◌, ℕ, ◌-◌, cond, List, take, drop, Some, None, Ok, Err, Option, Result}
+use Rattle.std.specs.Prelude.{◌≡◌, ℕ, ◌-◌, List, take, drop, Some, None, Ok, Err, Option, Result}
 use Rattle.plant.specs.declared.refusal.Refusal.{Refusal}
 use Rattle.promise.specs.Readings.{Work}
 use Rattle.legs.specs.Answers.{Counted}
@@ -10,9 +10,14 @@ use Rattle.sequencer.specs.declared.sequencer.table.Table.{Table}
 abbrev pub between : List ℕ → ℕ → ℕ → List ℕ
 between os begins ends = take (ends - begins) (drop begins os)
 
--- what is still to be done of the list in hand, with its target
-abbrev pub work_in : Table → Option Work
-work_in x = cond x.held (Some (record { target = x.target; to_do = between x.operations x.begins x.ends })) None
+-- what is still to be done of a list, with its target
+abbrev pub work_of : Table → Work
+work_of x = record { target = x.target; to_do = between x.operations x.begins x.ends }
+
+-- the same of the list in hand, if there is one
+abbrev pub work_in : Option Table → Option Work
+work_in None = None
+work_in (Some x) = Some (work_of x)
 
 -- the list loses its first, or the operation is refused and nothing changes
 abbrev pub Moves : Option Work → ℕ → Option Work → Result Unit Refusal → Type 0

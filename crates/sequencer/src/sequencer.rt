@@ -15,5 +15,6 @@ pub mod tagging;
 pub struct Sequencer<P: Plant> {
     plant: Tagged<P>,
     setting: u32,
-    list: Table,
+    // the list in hand, if there is one
+    list: Option<Table>,
 }

@@ -16,10 +16,12 @@ impl<P: Plant> Sequencer<P> {
         ensures same { under self.new ≡ under self.old }
         ensures promise { KeepsOn (P.meaning (under self.old)) (state_of self.old) (doing operation) (state_of self.new) }
     {
-        self.list.advance(operation)?;
-        match self.plant.below().step(self.setting, operation) {
-            Some(next) => self.setting = next,
-            None => {}
+        self.list
+            .as_mut()
+            .ok_or(Refusal::NoList)?
+            .advance(operation)?;
+        if let Some(next) = self.plant.below().step(self.setting, operation) {
+            self.setting = next;
         }
         Ok(())
     }
@@ -30,10 +32,10 @@ impl<P: Plant> Sequencer<P> {
         ensures same { under self.new ≡ under self.old }
         ensures promise { KeepsOn (P.meaning (under self.old)) (state_of self.old) drop_list (state_of self.new) }
     {
-        if !self.list.is_held() {
+        if self.list.is_none() {
             return Err(Refusal::NoList);
         }
-        self.list.forget();
+        self.list = None;
         Ok(())
     }
 }

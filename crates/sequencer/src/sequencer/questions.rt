@@ -26,20 +26,20 @@ impl<P: Plant> Sequencer<P> {
     pub fn target(&self) -> Option<u32>
         ensures { result ≡ target_of (state_of self.now).list }
     {
-        self.list.target()
+        self.list.as_ref().map(|list| list.target())
     }
 
     // How many operations of the list in hand are still to be done, if there is one.
     pub fn length(&self) -> Option<u16>
         ensures { result ≡ length_of (state_of self.now).list }
     {
-        self.list.length()
+        self.list.as_ref().map(|list| list.length())
     }
 
     // The operation at a place, from 0, among those still to be done. None past the end, and where no list is in hand.
     pub fn operation(&self, place: u16) -> Option<u16>
         ensures { result ≡ operation_of (state_of self.now).list place }
     {
-        self.list.operation(place)
+        self.list.as_ref()?.operation(place)
     }
 }

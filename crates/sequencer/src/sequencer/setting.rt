@@ -6,7 +6,6 @@ ghost use Rattle.promise.specs.Promise.{Holds, KeepsOn};
 ghost use Rattle.sequencer.specs.State.{state_of, under, Carried};
 
 use crate::sequencer::Sequencer;
-use crate::sequencer::table::Table;
 use plant::plant::Plant;
 use plant::refusal::Refusal;
 use tagged::tagged::Tagged;
@@ -21,7 +20,7 @@ impl<P: Plant> Sequencer<P> {
         Sequencer {
             plant: Tagged::new(plant),
             setting: 0,
-            list: Table::new(),
+            list: None,
         }
     }
 
@@ -36,7 +35,7 @@ impl<P: Plant> Sequencer<P> {
             return Err(Refusal::NoSuchSetting);
         }
         self.setting = setting;
-        self.list.forget();
+        self.list = None;
         Ok(())
     }
 }

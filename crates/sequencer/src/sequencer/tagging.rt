@@ -17,7 +17,11 @@ impl<P: Plant> Sequencer<P> {
         ensures promise { KeepsOn (P.meaning (under self.old)) (state_of self.old) (tagging operation) (state_of self.new) }
     {
         self.plant.tag(operation)?;
-        self.list.spare(self.plant.below(), operation);
+        let plant = self.plant.below();
+        self.list = self
+            .list
+            .take()
+            .filter(|list| !list.touches(plant, operation));
         Ok(())
     }
 
@@ -29,7 +33,7 @@ impl<P: Plant> Sequencer<P> {
         ensures promise { KeepsOn (P.meaning (under self.old)) (state_of self.old) (untagging operation) (state_of self.new) }
     {
         self.plant.untag(operation)?;
-        self.list.forget();
+        self.list = None;
         Ok(())
     }
 }

@@ -1,111 +1,77 @@
-// What the list table does and tells.
-ghost use Rattle.std.specs.Prelude.{◌≡◌, None};
-ghost use Rattle.promise.specs.States.{spared, moved_on, done_refusal, drop_refusal};
+// What a list in hand tells, and how it is worked along.
+ghost use Rattle.std.specs.Prelude.{◌≡◌, ◌≤◌, length, take, Some};
+ghost use Rattle.std.specs.List.{slice_get};
 ghost use Rattle.promise.specs.Readings.{touches};
-ghost use Rattle.sequencer.specs.Table.{work_in, Moves};
-ghost use Rattle.sequencer.specs.Questions.{target_of, length_of, operation_of};
+ghost use Rattle.sequencer.specs.Table.{work_of, Moves};
 
 use crate::sequencer::table::Table;
 use plant::plant::Plant;
 use plant::refusal::Refusal;
 
 impl Table {
-    // No list in hand.
-    pub(crate) fn new() -> Table
-        ensures { work_in result ≡ None }
+    // The list of so many operations at the front of these, with its target.
+    pub(crate) fn new(operations: [u16; 255], count: u16, target: u32) -> Table
+        requires { count ≤ 255 }
+        ensures to_do { (work_of result).to_do ≡ take count operations }
+        ensures target { (work_of result).target ≡ target }
     {
         Table {
-            operations: [0; 255],
+            operations,
             begins: 0,
-            ends: 0,
-            target: 0,
-            held: false,
+            ends: count,
+            target,
         }
     }
 
-    // The list goes.
-    pub(crate) fn forget(&mut self)
-        ensures { work_in self.new ≡ None }
+    // The target of the list.
+    pub(crate) fn target(&self) -> u32
+        ensures { result ≡ (work_of self.now).target }
     {
-        self.held = false;
+        self.target
     }
 
-    // Whether a list is in hand.
-    pub(crate) fn is_held(&self) -> bool
-        ensures { result ≡ self.now.held }
+    // The operations that are still to be done.
+    pub(crate) fn to_do(&self) -> &[u16]
+        ensures { result.now ≡ (work_of self.now).to_do }
     {
-        self.held
+        &self.operations[self.begins as usize..self.ends as usize]
+    }
+
+    // How many operations are still to be done.
+    pub(crate) fn length(&self) -> u16
+        ensures { result ≡ length (work_of self.now).to_do }
+    {
+        self.ends - self.begins
+    }
+
+    // The operation at a place among those that are still to be done.
+    pub(crate) fn operation(&self, place: u16) -> Option<u16>
+        ensures { result ≡ slice_get (work_of self.now).to_do place }
+    {
+        self.to_do().get(place as usize).copied()
     }
 
     // The list loses its first operation, which must be this one.
     pub(crate) fn advance(&mut self, operation: u16) -> Result<(), Refusal>
-        ensures { Moves (work_in self.old) operation (work_in self.new) result }
+        ensures { Moves (Some (work_of self.old)) operation (Some (work_of self.new)) result }
     {
-        if !self.held {
-            return Err(Refusal::NoList);
-        }
-        if self.begins == self.ends {
+        let [first, ..] = self.to_do() else {
             return Err(Refusal::WrongOperation);
-        }
-        if self.operations[self.begins as usize] != operation {
+        };
+        if *first != operation {
             return Err(Refusal::WrongOperation);
         }
         self.begins += 1;
         Ok(())
     }
 
-    // The list goes if the operation or its reverse is still to be done.
-    pub(crate) fn spare<P: Plant>(&mut self, plant: &P, operation: u16)
-        ensures { work_in self.new ≡ spared (P.meaning plant.now) operation (work_in self.old) }
+    // Whether the operation or its reverse is still to be done.
+    pub(crate) fn touches<P: Plant>(&self, plant: &P, operation: u16) -> bool
+        ensures { result ≡ touches (P.meaning plant.now) operation (work_of self.now).to_do }
     {
-        if touched(
-            plant,
-            &self.operations[self.begins as usize..self.ends as usize],
-            operation,
-        ) {
-            self.forget();
-        }
+        let reverse = plant.reverse(operation);
+        let list = self.to_do();
+        list.iter()
+            .any(|other| *other == operation || *other == reverse)
     }
-
-    // The target of the list in hand.
-    pub(crate) fn target(&self) -> Option<u32>
-        ensures { result ≡ target_of (work_in self.now) }
-    {
-        if self.held { Some(self.target) } else { None }
-    }
-
-    // How many operations are still to be done.
-    pub(crate) fn length(&self) -> Option<u16>
-        ensures { result ≡ length_of (work_in self.now) }
-    {
-        if self.held {
-            Some(self.ends - self.begins)
-        } else {
-            None
-        }
-    }
-
-    // The operation at a place among those still to be done.
-    pub(crate) fn operation(&self, place: u16) -> Option<u16>
-        ensures { result ≡ operation_of (work_in self.now) place }
-    {
-        if self.held & (place < self.ends - self.begins) {
-            Some(self.operations[(self.begins + place) as usize])
-        } else {
-            None
-        }
-    }
-}
-
-// Whether the operation or its reverse stands in the list.
-fn touched<P: Plant>(plant: &P, list: &[u16], operation: u16) -> bool
-    ensures { result ≡ touches (P.meaning plant.now) operation list.now }
-{
-    let reverse = plant.reverse(operation);
-    for other in list {
-        if (*other == operation) | (*other == reverse) {
-            return true;
-        }
-    }
-    false
 }
