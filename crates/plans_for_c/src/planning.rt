@@ -1,14 +1,16 @@
 // Plans for callers in C. The answer is the length, 0 to 255; or 256 times the number of the refusal, 4 to 7; or 65,536
 // where the body has a fault or the place for the list has not 255 numbers, and then nothing is changed.
 ghost use Rattle.std.specs.Prelude.{◌≡◌, length};
+ghost use Rattle.legs.specs.Asked.{asked};
 ghost use Rattle.legs.specs.Plans.{planned};
 ghost use Rattle.search.specs.Leg.{leg};
 ghost use Rattle.search.specs.Records.{relay_blank};
 ghost use Rattle.search.specs.Answered.{search_leaves};
 ghost use Rattle.plans_for_c.specs.ForC.{plan_code, count_told, list_told, bench_for, answer_on, left_on};
 
+use legs::leg::Leg;
 use legs::relayed::Relayed;
-use plan::planning::plan_with_index;
+use plan::planning::plan;
 use plant::plant::Plant;
 use plants_read::bench_read::bench_of;
 
@@ -17,22 +19,20 @@ const NO_PLAN: u64 = 65536;
 
 fn plan_on<P: Plant>(
     plant: &P,
-    start: u32,
-    target: u32,
-    bound: u16,
+    leg: Leg,
     records: &mut [Relayed],
     index: &mut [u32],
     list: &mut [u16],
     count: &mut u64,
 ) -> u64
     requires { length list.old ≡ 255 }
-    ensures answer { result ≡ plan_code (planned (P.meaning plant.now) (leg start target bound) (length records.old)) }
-    ensures list { list.new ≡ list_told (planned (P.meaning plant.now) (leg start target bound) (length records.old)) list.old }
-    ensures count { count.new ≡ count_told (planned (P.meaning plant.now) (leg start target bound) (length records.old)) count.old }
-    ensures records { records.new ≡ search_leaves relay_blank (P.meaning plant.now) (leg start target bound) records.old }
+    ensures answer { result ≡ plan_code (planned (P.meaning plant.now) (asked leg) (length records.old)) }
+    ensures list { list.new ≡ list_told (planned (P.meaning plant.now) (asked leg) (length records.old)) list.old }
+    ensures count { count.new ≡ count_told (planned (P.meaning plant.now) (asked leg) (length records.old)) count.old }
+    ensures records { records.new ≡ search_leaves relay_blank (P.meaning plant.now) (asked leg) records.old }
 {
     let mut place = [0u16; 255];
-    match plan_with_index(plant, start, target, bound, records, index, &mut place) {
+    match plan(plant, leg, records, index, &mut place) {
         Ok(planned) => {
             list.copy_from_slice(&place);
             *count = planned.count;
@@ -62,8 +62,13 @@ pub extern "C" fn jidorafu_plan_bench(
     if list.len() != 255 {
         return NO_PLAN;
     }
+    let leg = Leg {
+        start,
+        target,
+        bound,
+    };
     match bench_of(body) {
-        Some(bench) => plan_on(&bench, start, target, bound, records, index, list, count),
+        Some(bench) => plan_on(&bench, leg, records, index, list, count),
         None => NO_PLAN,
     }
 }

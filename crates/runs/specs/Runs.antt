@@ -4,6 +4,7 @@ use Rattle.plant.specs.Meaning.{Meaning}
 use Rattle.plant.specs.declared.refusal.Refusal.{Refusal}
 use Rattle.plant.specs.declared.refusal.Refusal.TheVariants.{NoSuchSetting, Bound, Overfull, OutOfReach}
 use Rattle.valves.specs.Bench.{bench}
+use Rattle.sample_plants.specs.BenchA.{positions, interlocks}
 use Rattle.tagged.specs.Tags.{untagged, cover}
 use Rattle.tagged.specs.Meaning.{tagged}
 use Rattle.legs.specs.Layers.{Leg}
@@ -11,9 +12,8 @@ use Rattle.legs.specs.Legs.{leg_length, need}
 use Rattle.legs.specs.Answers.{Counted, measured}
 use Rattle.legs.specs.Plans.{planned}
 
--- two valves, of 3 and of 2 positions; valve 0 may not move into or out of position 2 while valve 1 stands at 0
 abbrev pub bench_a : Meaning
-bench_a = bench (3 ∷ 2 ∷ []) (record { valve = 0; position = 2; other = 1; stands = 0 } ∷ [])
+bench_a = bench positions interlocks
 
 -- the same with operation 2, and so its reverse, tagged
 abbrev pub bench_a_tagged : Meaning

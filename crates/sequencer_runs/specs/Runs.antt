@@ -4,13 +4,13 @@ use Rattle.plant.specs.Meaning.{Meaning}
 use Rattle.plant.specs.declared.refusal.Refusal.{Refusal}
 use Rattle.plant.specs.declared.refusal.Refusal.TheVariants.{TaggedAlready, Overfull, OutOfReach, WrongOperation}
 use Rattle.valves.specs.Bench.{bench}
+use Rattle.sample_plants.specs.BenchA.{positions, interlocks}
 use Rattle.promise.specs.Calls.{Call, tag, untag, plan, done, drop_list, hand_move, accepted}
 use Rattle.promise.specs.Readings.{Work, setting_of, tagged_in}
 use Rattle.promise.specs.States.{refusal, after_calls, history}
 
--- valve 0 may not move into or out of position 2 while valve 1 stands at 0
 abbrev pub bench_a : Meaning
-bench_a = bench (3 ∷ 2 ∷ []) (record { valve = 0; position = 2; other = 1; stands = 0 } ∷ [])
+bench_a = bench positions interlocks
 
 -- the list in hand after the calls, the newest first
 abbrev pub list_after : List Call → Option Work

@@ -1,0 +1,2 @@
+pub mod BenchA
+pub mod Ring
