@@ -1,5 +1,6 @@
 // What the sequencer tells: the setting, the tagged operations, and the list in hand.
 use sequencer::sequencer::Sequencer;
+use std::fmt::Write;
 use valves::bench::Bench;
 
 // How many operations the bench has.
@@ -10,7 +11,7 @@ pub(crate) fn show_lamps(rt: &HostRuntime, sequencer: &Sequencer<Bench>) -> anyh
     let mut tags = String::new(rt.alloc());
     for operation in 0..OPERATIONS {
         if sequencer.is_tagged(operation) {
-            tags.push_str(format!(in rt.alloc(); " {operation}")?.as_str())?;
+            write!(tags, " {operation}")?;
         }
     }
     match (sequencer.target(), sequencer.length()) {
@@ -28,9 +29,8 @@ pub(crate) fn show_lamps(rt: &HostRuntime, sequencer: &Sequencer<Bench>) -> anyh
 fn list_of(rt: &HostRuntime, sequencer: &Sequencer<Bench>, length: u16) -> anyhow::Result<String> {
     let mut list = String::new(rt.alloc());
     for place in 0..length {
-        match sequencer.operation(place) {
-            Some(operation) => list.push_str(format!(in rt.alloc(); " {operation}")?.as_str())?,
-            None => {}
+        if let Some(operation) = sequencer.operation(place) {
+            write!(list, " {operation}")?;
         }
     }
     Ok(list)

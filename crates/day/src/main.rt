@@ -2,11 +2,10 @@
 // what the sequencer tells after it.
 #![tactic(auto)]
 
-mod bench;
 mod lamps;
 mod script;
 
-use bench::bench_a;
+use sample_plants::bench_a;
 use script::run_line;
 use sequencer::sequencer::Sequencer;
 
@@ -15,7 +14,7 @@ fn main(rt: HostRuntime) -> anyhow::Result<()> {
 }
 
 fn run(rt: &HostRuntime) -> anyhow::Result<()> {
-    let mut sequencer = Sequencer::new(bench_a()?);
+    let mut sequencer = Sequencer::new(bench_a());
     for line in rt.lines(rt.alloc()) {
         let line = line?;
         run_line(rt, &mut sequencer, line.as_str())?;

@@ -1,9 +1,10 @@
 // One line of the script: a call with its numbers, or a line that begins with # and is printed as it is.
 use crate::lamps::show_lamps;
-use anyhow::anyhow;
+use anyhow::{Context, anyhow};
 use legs::relayed::Relayed;
 use plant::refusal::Refusal;
 use sequencer::sequencer::Sequencer;
+use told::Told;
 use valves::bench::Bench;
 
 // The most records that a plan of the script is lent.
@@ -19,14 +20,11 @@ pub(crate) fn run_line(
         return Ok(());
     }
     match line.split_once(' ') {
-        Some(("plan", rest)) => {
-            let answer = run_plan(sequencer, rest)?;
-            tell_count(rt, answer)?;
-        }
-        _ => {
-            let answer = run_call(sequencer, line)?;
-            tell(rt, answer)?;
-        }
+        Some(("plan", rest)) => match run_plan(sequencer, rest)? {
+            Ok(count) => println!(rt; "  accepted, {count} expanded")?,
+            Err(refusal) => println!(rt; "  {}", Told(Err(refusal)))?,
+        },
+        _ => println!(rt; "  {}", Told(run_call(sequencer, line)?))?,
     }
     show_lamps(rt, sequencer)
 }
@@ -44,49 +42,23 @@ fn run_call(sequencer: &mut Sequencer<Bench>, line: &str) -> anyhow::Result<Resu
 
 // A plan with the target, the bound, and how many records are lent.
 fn run_plan(sequencer: &mut Sequencer<Bench>, rest: &str) -> anyhow::Result<Result<u64, Refusal>> {
-    let Some((target, rest)) = rest.split_once(' ') else {
-        return Err(anyhow!("a plan has a target, a bound and a number of records"));
-    };
-    let Some((bound, lent)) = rest.split_once(' ') else {
-        return Err(anyhow!("a plan has a target, a bound and a number of records"));
-    };
-    let lent = lent.parse::<usize>()?;
-    let mut records = [Relayed {
-        setting: 0,
-        relay: 0,
-    }; RECORDS];
-    if lent > RECORDS {
-        return Err(anyhow!("there are not so many records"));
-    }
+    let (target, rest) = cut(rest)?;
+    let (bound, lent) = cut(rest)?;
+    let mut records = [Relayed::default(); RECORDS];
+    let records = records
+        .get_mut(..lent.parse::<usize>()?)
+        .context("there are not so many records")?;
     Ok(sequencer.plan(
         target.parse::<u32>()?,
         bound.parse::<u16>()?,
-        &mut records[0..lent],
+        records,
+        &mut [],
     ))
 }
 
-fn tell(rt: &HostRuntime, answer: Result<(), Refusal>) -> anyhow::Result<()> {
-    match answer {
-        Ok(_) => {
-            println!(rt; "  accepted")?;
-        }
-        Err(refusal) => {
-            let number = refusal.code();
-            println!(rt; "  refused {number}")?;
-        }
-    }
-    Ok(())
-}
-
-fn tell_count(rt: &HostRuntime, answer: Result<u64, Refusal>) -> anyhow::Result<()> {
-    match answer {
-        Ok(count) => {
-            println!(rt; "  accepted, {count} expanded")?;
-        }
-        Err(refusal) => {
-            let number = refusal.code();
-            println!(rt; "  refused {number}")?;
-        }
-    }
-    Ok(())
+// The first word, and the rest behind the blank.
+fn cut(words: &str) -> anyhow::Result<(&str, &str)> {
+    words
+        .split_once(' ')
+        .context("a plan has a target, a bound and a number of records")
 }

@@ -2,6 +2,7 @@
 use pair::pair::Pair;
 use plant::plant::Plant;
 use std::alloc::{AllocError, Global};
+use std::fmt::Write;
 use tagged::tagged::Tagged;
 use track::track::Track;
 use valves::bench::Bench;
@@ -14,12 +15,8 @@ impl Describe for Bench {
     fn describe(&self, heap: Global, setting: u32) -> Result<String, AllocError> {
         let mut text = String::from_str(heap, "valves at")?;
         for valve in 0..12u8 {
-            match self.position(setting, valve) {
-                Some(position) => {
-                    let more = format!(in heap; " {position}")?;
-                    text.push_str(more.as_str())?;
-                }
-                None => {}
+            if let Some(position) = self.position(setting, valve) {
+                write!(text, " {position}")?;
             }
         }
         Ok(text)

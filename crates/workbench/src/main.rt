@@ -14,7 +14,7 @@ fn main(rt: HostRuntime) -> anyhow::Result<()> {
 }
 
 fn run(rt: &HostRuntime) -> anyhow::Result<()> {
-    let mut shop = Shop::new()?;
+    let mut shop = Shop::new();
     for line in rt.lines(rt.alloc()) {
         let line = line?;
         run_line(rt, &mut shop, line.as_str())?;

@@ -4,8 +4,8 @@ use crate::describe::Describe;
 use crate::shop::Shop;
 use anyhow::anyhow;
 use plant::plant::Plant;
-use plant::refusal::Refusal;
 use tagged::tagged::Tagged;
+use told::Told;
 
 pub(crate) fn run_line(rt: &HostRuntime, shop: &mut Shop, line: &str) -> anyhow::Result<()> {
     rt.println(line)?;
@@ -25,29 +25,12 @@ fn run_on<P: Plant + Describe>(
     plant: &mut Tagged<P>,
     rest: &str,
 ) -> anyhow::Result<()> {
-    match rest.split_once(' ') {
-        Some(("tag", operation)) => {
-            let refused = plant.tag(operation.parse::<u16>()?);
-            tell(rt, refused)
-        }
-        Some(("untag", operation)) => {
-            let refused = plant.untag(operation.parse::<u16>()?);
-            tell(rt, refused)
-        }
-        _ => work(rt, plant, rest),
-    }
-}
-
-fn tell(rt: &HostRuntime, answer: Result<(), Refusal>) -> anyhow::Result<()> {
-    match answer {
-        Ok(_) => {
-            println!(rt; "  accepted")?;
-        }
-        Err(refusal) => {
-            let number = refusal.code();
-            println!(rt; "  refused {number}")?;
-        }
-    }
+    let answer = match rest.split_once(' ') {
+        Some(("tag", operation)) => plant.tag(operation.parse::<u16>()?),
+        Some(("untag", operation)) => plant.untag(operation.parse::<u16>()?),
+        _ => return work(rt, plant, rest),
+    };
+    println!(rt; "  {}", Told(answer))?;
     Ok(())
 }
 
