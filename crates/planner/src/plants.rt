@@ -2,6 +2,7 @@
 // and the ring run as one.
 use anyhow::anyhow;
 use pair::pair::Pair;
+use sample_plants::bench_a;
 use tagged::tagged::Tagged;
 use track::link::Link;
 use track::track::Track;
@@ -19,10 +20,10 @@ pub struct Plants {
 impl Plants {
     pub(crate) fn new() -> anyhow::Result<Plants> {
         Ok(Plants {
-            bench: Tagged::new(bench_a()?),
+            bench: Tagged::new(bench_a()),
             twelve: Tagged::new(twelve_valves()?),
             ring: Tagged::new(ring()?),
-            pair: Tagged::new(Pair::new(bench_a()?, ring()?)),
+            pair: Tagged::new(Pair::new(bench_a(), ring()?)),
         })
     }
 }
@@ -36,22 +37,12 @@ fn lock(valve: u8, position: u8, other: u8, stands: u8) -> Interlock {
     }
 }
 
-fn made(positions: &[u8], interlocks: &[Interlock]) -> anyhow::Result<Bench> {
-    match Bench::new(positions, interlocks) {
-        Ok(bench) => Ok(bench),
-        Err(_) => Err(anyhow!("the bench is not made")),
-    }
-}
-
-// Valve 0 may not move into or out of position 2 while valve 1 stands at 0.
-fn bench_a() -> anyhow::Result<Bench> {
-    made(&[3, 2], &[lock(0, 2, 1, 0)])
-}
-
 // Valve 0 leaves position 0 only after valve 1, valve 1 only after valve 2, and valve 11 only while valve 0 is at 0.
 fn twelve_valves() -> anyhow::Result<Bench> {
     let locks = [lock(0, 0, 1, 0), lock(1, 0, 2, 0), lock(11, 0, 0, 1)];
-    made(&[2, 3, 2, 4, 2, 3, 2, 4, 2, 3, 2, 4], &locks)
+    Bench::new(&[2, 3, 2, 4, 2, 3, 2, 4, 2, 3, 2, 4], &locks).map_err(|_| anyhow!(
+        "the bench is not made"
+    ))
 }
 
 // Six stations in a ring, so that both ways from 0 to 3 have three links; 5 is joined twice to 6, and 7 to none.
@@ -66,8 +57,5 @@ fn ring() -> anyhow::Result<Track> {
         Link { one: 6, other: 5 },
         Link { one: 5, other: 6 },
     ];
-    match Track::new(8, &links) {
-        Ok(track) => Ok(track),
-        Err(_) => Err(anyhow!("the track is not made")),
-    }
+    Track::new(8, &links).map_err(|_| anyhow!("the track is not made"))
 }

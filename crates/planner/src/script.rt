@@ -4,8 +4,8 @@ use crate::ask::{Question, ask_measure, ask_plan};
 use crate::plants::Plants;
 use anyhow::anyhow;
 use plant::plant::Plant;
-use plant::refusal::Refusal;
 use tagged::tagged::Tagged;
+use told::Told;
 
 pub(crate) fn run_line(rt: &HostRuntime, plants: &mut Plants, line: &str) -> anyhow::Result<()> {
     rt.println(line)?;
@@ -22,36 +22,13 @@ pub(crate) fn run_line(rt: &HostRuntime, plants: &mut Plants, line: &str) -> any
 }
 
 fn run_on<P: Plant>(rt: &HostRuntime, plant: &mut Tagged<P>, rest: &str) -> anyhow::Result<()> {
-    match rest.split_once(' ') {
-        Some(("tag", operation)) => {
-            let answer = plant.tag(operation.parse::<u16>()?);
-            tell(rt, answer)
-        }
-        Some(("untag", operation)) => {
-            let answer = plant.untag(operation.parse::<u16>()?);
-            tell(rt, answer)
-        }
-        Some(("measure", words)) => {
-            let question = Question::read(words)?;
-            ask_measure(rt, plant, question)
-        }
-        Some(("plan", words)) => {
-            let question = Question::read(words)?;
-            ask_plan(rt, plant, question)
-        }
-        _ => Err(anyhow!("a line says tag, untag, measure or plan")),
-    }
-}
-
-fn tell(rt: &HostRuntime, answer: Result<(), Refusal>) -> anyhow::Result<()> {
-    match answer {
-        Ok(_) => {
-            println!(rt; "  accepted")?;
-        }
-        Err(refusal) => {
-            let number = refusal.code();
-            println!(rt; "  refused {number}")?;
-        }
-    }
+    let answer = match rest.split_once(' ') {
+        Some(("tag", operation)) => plant.tag(operation.parse::<u16>()?),
+        Some(("untag", operation)) => plant.untag(operation.parse::<u16>()?),
+        Some(("measure", words)) => return ask_measure(rt, plant, Question::read(words)?),
+        Some(("plan", words)) => return ask_plan(rt, plant, Question::read(words)?),
+        _ => return Err(anyhow!("a line says tag, untag, measure or plan")),
+    };
+    println!(rt; "  {}", Told(answer))?;
     Ok(())
 }

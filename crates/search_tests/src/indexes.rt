@@ -1,10 +1,11 @@
 // The same answers with every index: none, one number, enough for chains, and enough for marks.
-use crate::asks::{track, used};
+use crate::asks::{leg, measured, planned, track, used};
 use crate::place::{is_all, is_written};
-use crate::records::{ZERO, hold};
+use crate::records::ZERO;
+use legs::leg::Leg;
 use legs::relayed::Relayed;
-use measure::{Measured, measure_with_index};
-use plan::planning::{Planned, plan_with_index};
+use measure::measure;
+use plan::planning::plan;
 use std::test::Fail;
 use track::link::Link;
 use track::track::Track;
@@ -27,46 +28,25 @@ fn ring() -> Result<Track, Fail> {
 // Lends so many numbers, at most 16, that hold places of records at first.
 fn measure_lent(
     ring: &Track,
-    target: u32,
-    bound: u16,
+    leg: Leg,
     records: &mut [u32],
     lent: usize,
 ) -> Result<(u16, u64), u8> {
     let mut index = [2u32; 16];
-    if lent > 16 {
-        return Err(0);
-    }
-    match measure_with_index(ring, 0, target, bound, records, &mut index[0..lent]) {
-        Ok(Measured { length, expanded }) => Ok((length, expanded)),
-        Err(refusal) => Err(refusal.code()),
-    }
+    measured(measure(ring, leg, records, &mut index[..lent.min(16)]))
 }
 
+// With six records, and what it left in them.
 fn plan_six(
     ring: &Track,
-    target: u32,
-    bound: u16,
+    leg: Leg,
     lent: usize,
     place: &mut [u16; 255],
-) -> Result<(u16, u64), u8> {
+) -> (Result<(u16, u64), u8>, [Relayed; 6]) {
     let mut records = [used(); 6];
     let mut index = [2u32; 16];
-    if lent > 16 {
-        return Err(0);
-    }
-    let answer = match plan_with_index(
-        ring,
-        0,
-        target,
-        bound,
-        &mut records,
-        &mut index[0..lent],
-        place,
-    ) {
-        Ok(Planned { length, count }) => Ok((length, count)),
-        Err(refusal) => Err(refusal.code()),
-    };
-    if hold(&records, ZERO) { answer } else { Err(0) }
+    let answer = plan(ring, leg, &mut records, &mut index[..lent.min(16)], place);
+    (planned(answer), records)
 }
 
 // With six records: none and 1 look at every record, 7 make chains in one bucket, 15 in nine, and 16 are marks.
@@ -77,7 +57,10 @@ fn the_same_list(rt: HostRuntime) -> Result<(), Fail> {
     let ring = ring()?;
     for lent in LENT {
         let mut place = [9u16; 255];
-        assert_eq!(rt; plan_six(&ring, 4, 255, lent, &mut place), Ok((4, 20)));
+        assert_eq!(rt;
+            plan_six(&ring, leg(0, 4, 255), lent, &mut place),
+            (Ok((4, 20)), [ZERO; 6])
+        );
         assert!(rt; is_written(&place, &[1, 7, 6, 5]));
     }
     Ok(())
@@ -88,8 +71,14 @@ fn the_same_refusals(rt: HostRuntime) -> Result<(), Fail> {
     let ring = ring()?;
     for lent in LENT {
         let mut place = [9u16; 255];
-        assert_eq!(rt; plan_six(&ring, 4, 3, lent, &mut place), Err(7));
-        assert_eq!(rt; plan_six(&ring, 9, 255, lent, &mut place), Err(7));
+        assert_eq!(rt;
+            plan_six(&ring, leg(0, 4, 3), lent, &mut place),
+            (Err(7), [ZERO; 6])
+        );
+        assert_eq!(rt;
+            plan_six(&ring, leg(0, 9, 255), lent, &mut place),
+            (Err(7), [ZERO; 6])
+        );
         assert!(rt; is_all(&place, 9));
     }
     Ok(())
@@ -100,10 +89,16 @@ fn the_same_measure(rt: HostRuntime) -> Result<(), Fail> {
     let ring = ring()?;
     for lent in LENT {
         let mut records = [77u32; 6];
-        assert_eq!(rt; measure_lent(&ring, 4, 255, &mut records, lent), Ok((4, 7)));
+        assert_eq!(rt;
+            measure_lent(&ring, leg(0, 4, 255), &mut records, lent),
+            Ok((4, 7))
+        );
         assert!(rt; records == [0u32; 6]);
         let mut records = [77u32; 5];
-        assert_eq!(rt; measure_lent(&ring, 4, 255, &mut records, lent), Err(6));
+        assert_eq!(rt;
+            measure_lent(&ring, leg(0, 4, 255), &mut records, lent),
+            Err(6)
+        );
         assert!(rt; records == [0u32; 5]);
     }
     Ok(())

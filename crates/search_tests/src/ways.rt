@@ -1,5 +1,5 @@
 // Two ways of equal length, equal links, a leg that ends in an empty layer, and a later leg that needs more than the first.
-use crate::asks::{ask_measure, ask_plan, bench, track};
+use crate::asks::{ask_measure, ask_plan, bench, leg, track};
 use crate::place::is_written;
 use std::test::Fail;
 use track::link::Link;
@@ -20,8 +20,8 @@ fn the_earliest_way(rt: HostRuntime) -> Result<(), Fail> {
     ];
     let ring = track(8, &links)?;
     let mut place = [9u16; 255];
-    assert_eq!(rt; ask_plan(&ring, 0, 4, 255, 5, &mut place), Err(6));
-    assert_eq!(rt; ask_plan(&ring, 0, 4, 255, 6, &mut place), Ok((4, 20)));
+    assert_eq!(rt; ask_plan(&ring, leg(0, 4, 255), 5, &mut place), Err(6));
+    assert_eq!(rt; ask_plan(&ring, leg(0, 4, 255), 6, &mut place), Ok((4, 20)));
     assert!(rt; is_written(&place, &[1, 7, 6, 5]));
     Ok(())
 }
@@ -36,9 +36,9 @@ fn equal_links(rt: HostRuntime) -> Result<(), Fail> {
     ];
     let track = track(3, &links)?;
     let mut place = [9u16; 255];
-    assert_eq!(rt; ask_plan(&track, 0, 1, 255, 2, &mut place), Ok((1, 1)));
+    assert_eq!(rt; ask_plan(&track, leg(0, 1, 255), 2, &mut place), Ok((1, 1)));
     assert!(rt; is_written(&place, &[0]));
-    assert_eq!(rt; ask_plan(&track, 2, 0, 255, 3, &mut place), Ok((2, 4)));
+    assert_eq!(rt; ask_plan(&track, leg(2, 0, 255), 3, &mut place), Ok((2, 4)));
     assert!(rt; is_written(&place, &[2, 0]));
     Ok(())
 }
@@ -47,11 +47,11 @@ fn equal_links(rt: HostRuntime) -> Result<(), Fail> {
 #[test]
 fn an_empty_layer(rt: HostRuntime) -> Result<(), Fail> {
     let track = track(3, &[Link { one: 0, other: 1 }])?;
-    assert_eq!(rt; ask_measure(&track, 0, 2, 255, 2), Err(7));
-    assert_eq!(rt; ask_measure(&track, 0, 2, 255, 1), Err(6));
+    assert_eq!(rt; ask_measure(&track, leg(0, 2, 255), 2), Err(7));
+    assert_eq!(rt; ask_measure(&track, leg(0, 2, 255), 1), Err(6));
     let mut place = [9u16; 255];
-    assert_eq!(rt; ask_plan(&track, 0, 2, 255, 2, &mut place), Err(7));
-    assert_eq!(rt; ask_plan(&track, 0, 2, 255, 1, &mut place), Err(6));
+    assert_eq!(rt; ask_plan(&track, leg(0, 2, 255), 2, &mut place), Err(7));
+    assert_eq!(rt; ask_plan(&track, leg(0, 2, 255), 1, &mut place), Err(6));
     Ok(())
 }
 
@@ -65,10 +65,10 @@ fn a_later_leg_needs_more(rt: HostRuntime) -> Result<(), Fail> {
         stands: 1,
     };
     let bench = bench(&[2, 2], lock)?;
-    assert_eq!(rt; ask_measure(&bench, 2, 3, 3, 3), Ok((3, 3)));
+    assert_eq!(rt; ask_measure(&bench, leg(2, 3, 3), 3), Ok((3, 3)));
     let mut place = [9u16; 255];
-    assert_eq!(rt; ask_plan(&bench, 2, 3, 3, 3, &mut place), Err(6));
-    assert_eq!(rt; ask_plan(&bench, 2, 3, 3, 4, &mut place), Ok((3, 9)));
+    assert_eq!(rt; ask_plan(&bench, leg(2, 3, 3), 3, &mut place), Err(6));
+    assert_eq!(rt; ask_plan(&bench, leg(2, 3, 3), 4, &mut place), Ok((3, 9)));
     assert!(rt; is_written(&place, &[3, 0, 2]));
     Ok(())
 }

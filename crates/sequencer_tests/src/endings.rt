@@ -6,7 +6,7 @@ use std::test::Fail;
 #[test]
 fn a_tag_on_what_is_done(rt: HostRuntime) -> Result<(), Fail> {
     for operation in [0, 1] {
-        let mut sequencer = sequencer_a()?;
+        let mut sequencer = sequencer_a();
         sequencer.hand_move(5)?;
         check_accepted(
             &rt,
@@ -26,7 +26,7 @@ fn a_tag_on_what_is_done(rt: HostRuntime) -> Result<(), Fail> {
 // The operation is done once, and comes again.
 #[test]
 fn a_tag_on_what_comes_again(rt: HostRuntime) -> Result<(), Fail> {
-    let mut sequencer = sequencer_a()?;
+    let mut sequencer = sequencer_a();
     check_accepted(
         &rt,
         &mut sequencer,
@@ -42,7 +42,7 @@ fn a_tag_on_what_comes_again(rt: HostRuntime) -> Result<(), Fail> {
 // With two done, 2 does not come again, but its reverse 3 does.
 #[test]
 fn a_tag_whose_reverse_comes(rt: HostRuntime) -> Result<(), Fail> {
-    let mut sequencer = sequencer_a()?;
+    let mut sequencer = sequencer_a();
     check_accepted(
         &rt,
         &mut sequencer,
@@ -59,9 +59,8 @@ fn a_tag_whose_reverse_comes(rt: HostRuntime) -> Result<(), Fail> {
 // From 0 to 4 by 0, 2: a tag on either or on the reverse of either ends the list.
 #[test]
 fn a_tag_on_what_is_planned(rt: HostRuntime) -> Result<(), Fail> {
-    for row in [(0, [0, 1]), (1, [0, 1]), (2, [2, 3]), (3, [2, 3])] {
-        let (operation, tags) = row;
-        let mut sequencer = sequencer_a()?;
+    for (operation, tags) in [(0, [0, 1]), (1, [0, 1]), (2, [2, 3]), (3, [2, 3])] {
+        let mut sequencer = sequencer_a();
         check_accepted(
             &rt,
             &mut sequencer,
@@ -77,7 +76,7 @@ fn a_tag_on_what_is_planned(rt: HostRuntime) -> Result<(), Fail> {
 // A tag spares a list that has neither the operation nor its reverse, and an untag ends it all the same.
 #[test]
 fn an_untag(rt: HostRuntime) -> Result<(), Fail> {
-    let mut sequencer = sequencer_a()?;
+    let mut sequencer = sequencer_a();
     check_accepted(
         &rt,
         &mut sequencer,
@@ -93,7 +92,7 @@ fn an_untag(rt: HostRuntime) -> Result<(), Fail> {
 // Also a move to the present setting, and of an empty list.
 #[test]
 fn a_hand_move(rt: HostRuntime) -> Result<(), Fail> {
-    let mut sequencer = sequencer_a()?;
+    let mut sequencer = sequencer_a();
     check_accepted(
         &rt,
         &mut sequencer,

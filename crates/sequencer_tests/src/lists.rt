@@ -9,7 +9,7 @@ use std::test::Fail;
 // Operation 0 stands in the list twice, and each place is done on its own.
 #[test]
 fn one_operation_twice(rt: HostRuntime) -> Result<(), Fail> {
-    let mut sequencer = sequencer_a()?;
+    let mut sequencer = sequencer_a();
     check_accepted(
         &rt,
         &mut sequencer,
@@ -40,7 +40,7 @@ fn one_operation_twice(rt: HostRuntime) -> Result<(), Fail> {
 // The empty list is in hand until it is dropped.
 #[test]
 fn the_empty_list(rt: HostRuntime) -> Result<(), Fail> {
-    let mut sequencer = sequencer_a()?;
+    let mut sequencer = sequencer_a();
     let told = listed(0, &[], 0, 0, &[]);
     check_accepted(&rt, &mut sequencer, &[(Call::Plan(0, 0, 1), told)]);
     check_refused(
@@ -65,7 +65,7 @@ fn the_empty_list(rt: HostRuntime) -> Result<(), Fail> {
 // A plan after a plan: the new list is from the present setting, and the old one is gone.
 #[test]
 fn a_new_plan(rt: HostRuntime) -> Result<(), Fail> {
-    let mut sequencer = sequencer_a()?;
+    let mut sequencer = sequencer_a();
     check_accepted(
         &rt,
         &mut sequencer,
@@ -86,14 +86,14 @@ fn the_longest_list(rt: HostRuntime) -> Result<(), Fail> {
     let mut sequencer = Sequencer::new(row_of_stations(&rt)?);
     let mut records = [BLANK; 6];
     assert_eq!(rt;
-        sequencer.plan(255, 255, &mut [BLANK; 5]),
+        sequencer.plan(255, 255, &mut [BLANK; 5], &mut []),
         Err(Refusal::Overfull)
     );
     assert_eq!(rt;
-        sequencer.plan(255, 254, &mut records),
+        sequencer.plan(255, 254, &mut records, &mut []),
         Err(Refusal::OutOfReach)
     );
-    let _count = sequencer.plan(255, 255, &mut records)?;
+    let _count = sequencer.plan(255, 255, &mut records, &mut [])?;
     assert_eq!(rt; sequencer.target(), Some(255));
     for place in 0..255u16 {
         assert_eq!(rt; sequencer.length(), Some(255 - place));

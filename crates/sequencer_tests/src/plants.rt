@@ -1,7 +1,8 @@
 // Sequencers over other plants: with tags below, a pair, and one without operations.
-use crate::samples::{Call, bare, bench_a, check_accepted, check_refused, listed, track_of};
+use crate::samples::{Call, bare, check_accepted, check_refused, listed, track_of};
 use pair::pair::Pair;
 use plant::refusal::Refusal;
+use sample_plants::bench_a;
 use sequencer::sequencer::Sequencer;
 use std::test::Fail;
 use tagged::tagged::Tagged;
@@ -10,7 +11,7 @@ use track::link::Link;
 // A tag below is not one of the sequencer's. Its plans do without the operation, and it can tag it too.
 #[test]
 fn tags_below(rt: HostRuntime) -> Result<(), Fail> {
-    let mut below = Tagged::new(bench_a()?);
+    let mut below = Tagged::new(bench_a());
     below.tag(2)?;
     let mut sequencer = Sequencer::new(below);
     check_refused(
@@ -43,7 +44,7 @@ fn tags_below(rt: HostRuntime) -> Result<(), Fail> {
 // The sequencer's tag and the one below are told apart: only the one below is left when it takes its own off.
 #[test]
 fn tags_of_its_own(rt: HostRuntime) -> Result<(), Fail> {
-    let mut below = Tagged::new(bench_a()?);
+    let mut below = Tagged::new(bench_a());
     below.tag(2)?;
     let mut sequencer = Sequencer::new(below);
     check_accepted(&rt, &mut sequencer, &[(Call::Tag(0), bare(0, &[0, 1]))]);
@@ -72,7 +73,7 @@ fn tags_of_its_own(rt: HostRuntime) -> Result<(), Fail> {
 #[test]
 fn a_pair(rt: HostRuntime) -> Result<(), Fail> {
     let track = track_of(2, &[Link { one: 0, other: 1 }])?;
-    let mut sequencer = Sequencer::new(Pair::new(bench_a()?, track));
+    let mut sequencer = Sequencer::new(Pair::new(bench_a(), track));
     check_accepted(
         &rt,
         &mut sequencer,

@@ -1,15 +1,16 @@
 // Each call refused for each of its reasons: nothing that the sequencer tells is changed.
 use crate::samples::{
-    BLANK, Call, bare, bench_a, check_accepted, check_refused, check_told, listed, sequencer_a,
+    BLANK, Call, bare, check_accepted, check_refused, check_told, listed, sequencer_a,
 };
 use legs::relayed::Relayed;
 use plant::refusal::Refusal;
+use sample_plants::bench_a;
 use sequencer::sequencer::Sequencer;
 use std::test::Fail;
 
 #[test]
 fn with_nothing_in_hand(rt: HostRuntime) -> Result<(), Fail> {
-    let mut sequencer = sequencer_a()?;
+    let mut sequencer = sequencer_a();
     check_refused(
         &rt,
         &mut sequencer,
@@ -30,7 +31,7 @@ fn with_nothing_in_hand(rt: HostRuntime) -> Result<(), Fail> {
 
 #[test]
 fn with_tags(rt: HostRuntime) -> Result<(), Fail> {
-    let mut sequencer = sequencer_a()?;
+    let mut sequencer = sequencer_a();
     sequencer.tag(1)?;
     check_refused(
         &rt,
@@ -51,7 +52,7 @@ fn with_tags(rt: HostRuntime) -> Result<(), Fail> {
 
 #[test]
 fn with_a_list_in_hand(rt: HostRuntime) -> Result<(), Fail> {
-    let mut sequencer = sequencer_a()?;
+    let mut sequencer = sequencer_a();
     let told = listed(0, &[], 2, 4, &[0, 2, 0, 3]);
     check_accepted(&rt, &mut sequencer, &[(Call::Plan(2, 4, 8), told)]);
     check_refused(
@@ -73,7 +74,7 @@ fn with_a_list_in_hand(rt: HostRuntime) -> Result<(), Fail> {
 // The old list and its target stay. Where a plan has several reasons, the first in the order of the checks is given.
 #[test]
 fn refused_plans_keep_the_old_list(rt: HostRuntime) -> Result<(), Fail> {
-    let mut sequencer = sequencer_a()?;
+    let mut sequencer = sequencer_a();
     let told = listed(0, &[], 4, 2, &[0, 2]);
     check_accepted(&rt, &mut sequencer, &[(Call::Plan(4, 255, 8), told)]);
     check_refused(
@@ -98,21 +99,24 @@ fn refused_plans_keep_the_old_list(rt: HostRuntime) -> Result<(), Fail> {
 // Where a plan is refused for its target or its bound the records stay as they were, and else they are zero after it.
 #[test]
 fn records_of_refused_plans(rt: HostRuntime) -> Result<(), Fail> {
-    let mut sequencer = Sequencer::new(bench_a()?);
+    let mut sequencer = Sequencer::new(bench_a());
     let filled = Relayed {
         setting: 5,
         relay: 7,
     };
     let mut records = [filled; 4];
     assert_eq!(rt;
-        sequencer.plan(6, 4, &mut records),
+        sequencer.plan(6, 4, &mut records, &mut []),
         Err(Refusal::NoSuchSetting)
     );
     assert_eq!(rt; records[3], filled);
-    assert_eq!(rt; sequencer.plan(2, 256, &mut records), Err(Refusal::Bound));
+    assert_eq!(rt;
+        sequencer.plan(2, 256, &mut records, &mut []),
+        Err(Refusal::Bound)
+    );
     assert_eq!(rt; records[3], filled);
     assert_eq!(rt;
-        sequencer.plan(2, 3, &mut records),
+        sequencer.plan(2, 3, &mut records, &mut []),
         Err(Refusal::OutOfReach)
     );
     assert_eq!(rt; records[3], BLANK);

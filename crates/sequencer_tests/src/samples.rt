@@ -2,29 +2,17 @@
 use legs::relayed::Relayed;
 use plant::plant::Plant;
 use plant::refusal::Refusal;
+use sample_plants::bench_a;
 use sequencer::sequencer::Sequencer;
 use std::process::Abort;
 use std::test::Fail;
 use track::link::Link;
 use track::track::Track;
 use valves::bench::Bench;
-use valves::interlock::Interlock;
-
-// Two valves of 3 and 2 positions; valve 0 may not move into or out of position 2 while valve 1 stands at 0.
-// Operations 0 and 1 move valve 0 up and down, and 2 and 3 move valve 1.
-pub(crate) fn bench_a() -> Result<Bench, Fail> {
-    let interlock = Interlock {
-        valve: 0,
-        position: 2,
-        other: 1,
-        stands: 0,
-    };
-    Ok(Bench::new(&[3, 2], &[interlock])?)
-}
 
 // A sequencer over bench A.
-pub(crate) fn sequencer_a() -> Result<Sequencer<Bench>, Fail> {
-    Ok(Sequencer::new(bench_a()?))
+pub(crate) fn sequencer_a() -> Sequencer<Bench> {
+    Sequencer::new(bench_a())
 }
 
 pub(crate) fn track_of(stations: u16, links: &[Link]) -> Result<Track, Fail> {
@@ -83,8 +71,7 @@ fn plan<P: Plant>(
     lent: usize,
 ) -> Result<(), Refusal> {
     let mut records = [BLANK; RECORDS];
-    let lent = if lent < RECORDS { lent } else { RECORDS };
-    let _count = sequencer.plan(target, bound, &mut records[0..lent])?;
+    let _count = sequencer.plan(target, bound, &mut records[..lent.min(RECORDS)], &mut [])?;
     Ok(())
 }
 
@@ -130,15 +117,6 @@ pub(crate) fn listed<'a>(
 // Operations and places that are looked at: more than any list in these tables has, and than any plant but a track has.
 const LOOKED: u16 = 12;
 
-fn is_among(operations: &[u16], wanted: u16) -> bool {
-    for operation in operations {
-        if *operation == wanted {
-            return true;
-        }
-    }
-    false
-}
-
 // The answers to all questions.
 pub(crate) fn check_told<P: Plant>(rt: &impl Abort, sequencer: &Sequencer<P>, told: Told<'_>) {
     assert_eq!(rt; sequencer.setting(), told.setting);
@@ -147,7 +125,7 @@ pub(crate) fn check_told<P: Plant>(rt: &impl Abort, sequencer: &Sequencer<P>, to
     for number in 0..LOOKED {
         assert_eq!(rt;
             sequencer.is_tagged(number),
-            is_among(told.tags, number),
+            told.tags.contains(&number),
             "tag of {number}"
         );
         assert_eq!(rt;
@@ -164,8 +142,7 @@ pub(crate) fn check_accepted<P: Plant>(
     sequencer: &mut Sequencer<P>,
     rows: &[(Call, Told<'_>)],
 ) {
-    for row in rows {
-        let (call, told) = *row;
+    for &(call, told) in rows {
         assert_eq!(rt; answer(sequencer, call), Ok(()));
         check_told(rt, sequencer, told);
     }
@@ -179,8 +156,7 @@ pub(crate) fn check_refused<P: Plant>(
     rows: &[(Call, Refusal)],
 ) {
     check_told(rt, sequencer, told);
-    for row in rows {
-        let (call, refusal) = *row;
+    for &(call, refusal) in rows {
         assert_eq!(rt; answer(sequencer, call), Err(refusal));
         check_told(rt, sequencer, told);
     }

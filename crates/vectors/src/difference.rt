@@ -1,4 +1,6 @@
 // What is not as a vector expects it.
+use std::fmt;
+
 #[derive(Clone, Copy)]
 pub enum Difference {
     Tag,
@@ -11,9 +13,9 @@ pub enum Difference {
     Most,
 }
 
-impl Difference {
-    pub(crate) fn text(self) -> &'static str {
-        match self {
+impl fmt::Display for Difference {
+    fn fmt<W: fmt::Write>(&self, f: &mut fmt::Formatter<W>) -> fmt::Result {
+        f.write_str(match self {
             Difference::Tag => "a tag is refused",
             Difference::Refused => "a leg is refused where it is not to be",
             Difference::Length => "the length differs",
@@ -22,6 +24,6 @@ impl Difference {
             Difference::List => "the list differs",
             Difference::Count => "the count differs",
             Difference::Most => "the plan is not overfull with one record fewer",
-        }
+        })
     }
 }

@@ -3,6 +3,7 @@
 
 mod compare;
 mod difference;
+mod lending;
 mod plants;
 mod vector;
 
@@ -39,8 +40,7 @@ fn run_line(rt: &HostRuntime, number: u32, line: &str) -> anyhow::Result<bool> {
             Ok(true)
         }
         Some(difference) => {
-            let what = difference.text();
-            println!(rt; "{number}: {what}")?;
+            println!(rt; "{number}: {difference}")?;
             Ok(false)
         }
     }

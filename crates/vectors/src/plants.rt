@@ -1,6 +1,7 @@
 // The plant of a vector, made and tagged, and the vector checked over it.
-use crate::compare::{WAYS, compare_measure, compare_plan};
+use crate::compare::{compare_measure, compare_plan};
 use crate::difference::Difference;
+use crate::lending::{ALL, Lending};
 use crate::vector::{Description, Vector};
 use anyhow::anyhow;
 use pair::pair::Pair;
@@ -16,10 +17,11 @@ const IDLE: u16 = 480;
 
 // What differs first, if anything does: on the plant as it is, and beside idle stations.
 pub(crate) fn check(heap: Global, vector: &Vector) -> anyhow::Result<Option<Difference>> {
-    match check_beside(heap, vector, 0)? {
-        Some(difference) => Ok(Some(difference)),
-        None => check_beside(heap, vector, IDLE),
+    let alone = check_beside(heap, vector, 0)?;
+    if alone.is_some() {
+        return Ok(alone);
     }
+    check_beside(heap, vector, IDLE)
 }
 
 fn check_beside(heap: Global, vector: &Vector, idle: u16) -> anyhow::Result<Option<Difference>> {
@@ -40,20 +42,15 @@ fn check_beside(heap: Global, vector: &Vector, idle: u16) -> anyhow::Result<Opti
 }
 
 fn bench(description: &Description) -> anyhow::Result<Bench> {
-    match Bench::new(
-        description.positions.as_slice(),
-        description.interlocks.as_slice(),
-    ) {
-        Ok(bench) => Ok(bench),
-        Err(_) => Err(anyhow!("the bench of a vector is not made")),
-    }
+    Bench::new(&description.positions, &description.interlocks).map_err(|_| anyhow!(
+        "the bench of a vector is not made"
+    ))
 }
 
 fn track(description: &Description, stations: u16) -> anyhow::Result<Track> {
-    match Track::new(stations, description.links.as_slice()) {
-        Ok(track) => Ok(track),
-        Err(_) => Err(anyhow!("the track of a vector is not made")),
-    }
+    Track::new(stations, &description.links).map_err(|_| anyhow!(
+        "the track of a vector is not made"
+    ))
 }
 
 fn check_on<P: Plant>(
@@ -61,16 +58,15 @@ fn check_on<P: Plant>(
     plant: &mut Tagged<P>,
     vector: &Vector,
 ) -> anyhow::Result<Option<Difference>> {
-    for operation in vector.description.tags.iter() {
-        match plant.tag(*operation) {
-            Ok(_) => {}
-            Err(_) => return Ok(Some(Difference::Tag)),
+    for operation in &vector.description.tags {
+        if plant.tag(*operation).is_err() {
+            return Ok(Some(Difference::Tag));
         }
     }
-    for way in 0..WAYS {
-        match compare(heap, plant, vector, way)? {
-            Some(difference) => return Ok(Some(difference)),
-            None => {}
+    for lending in ALL {
+        let difference = compare(heap, plant, vector, lending)?;
+        if difference.is_some() {
+            return Ok(difference);
         }
     }
     Ok(None)
@@ -80,10 +76,11 @@ fn compare<P: Plant>(
     heap: Global,
     plant: &Tagged<P>,
     vector: &Vector,
-    way: u8,
+    lending: Lending,
 ) -> anyhow::Result<Option<Difference>> {
-    match compare_measure(heap, plant, vector.question, &vector.expected, way)? {
-        Some(difference) => Ok(Some(difference)),
-        None => compare_plan(heap, plant, vector.question, &vector.expected, way),
+    let measured = compare_measure(heap, plant, vector.leg, &vector.expected, lending)?;
+    if measured.is_some() {
+        return Ok(measured);
     }
+    compare_plan(heap, plant, vector.leg, &vector.expected, lending)
 }

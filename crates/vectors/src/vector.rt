@@ -1,6 +1,7 @@
-// A vector: a plant, a question, and what is to be answered. Its line has parts with a comma and a blank between them,
+// A vector: a plant, a leg, and what is to be answered. Its line has parts with a comma and a blank between them,
 // and each part is a name and numbers with single blanks between them.
-use anyhow::anyhow;
+use anyhow::{Context, anyhow};
+use legs::leg::Leg;
 use std::alloc::Global;
 use track::link::Link;
 use valves::interlock::Interlock;
@@ -13,13 +14,6 @@ pub struct Description {
     pub stations: u16,
     pub links: Vec<Link>,
     pub tags: Vec<u16>,
-}
-
-#[derive(Clone, Copy)]
-pub struct Question {
-    pub start: u32,
-    pub target: u32,
-    pub bound: u16,
 }
 
 // The first leg's length, the settings that it expands and the records that it needs; the most records that a leg of
@@ -37,23 +31,19 @@ pub struct Expected {
 #[derive(Drop)]
 pub struct Vector {
     pub description: Description,
-    pub question: Question,
+    pub leg: Leg,
     pub expected: Expected,
 }
 
 impl Vector {
     pub(crate) fn read(heap: Global, line: &str) -> anyhow::Result<Vector> {
         let mut description = Description::empty(heap);
-        let mut question = Question {
-            start: 0,
-            target: 0,
-            bound: 0,
-        };
+        let mut leg = Leg::default();
         let mut expected = Expected::empty(heap);
         for part in line.split(", ") {
             let (name, words) = cut(part)?;
             if !description.take(name, words)?
-                && !question.take(name, words)?
+                && !take_of_leg(&mut leg, name, words)?
                 && !expected.take(name, words)?
             {
                 return Err(anyhow!("a part of a vector has no such name"));
@@ -61,7 +51,7 @@ impl Vector {
         }
         Ok(Vector {
             description,
-            question,
+            leg,
             expected,
         })
     }
@@ -96,17 +86,15 @@ impl Description {
     }
 }
 
-impl Question {
-    // Takes the part in if it is one of the question's.
-    fn take(&mut self, name: &str, words: &str) -> anyhow::Result<bool> {
-        match name {
-            "from" => self.start = words.parse::<u32>()?,
-            "to" => self.target = words.parse::<u32>()?,
-            "within" => self.bound = words.parse::<u16>()?,
-            _ => return Ok(false),
-        }
-        Ok(true)
+// Takes the part in if it is one of the leg's.
+fn take_of_leg(leg: &mut Leg, name: &str, words: &str) -> anyhow::Result<bool> {
+    match name {
+        "from" => leg.start = words.parse::<u32>()?,
+        "to" => leg.target = words.parse::<u32>()?,
+        "within" => leg.bound = words.parse::<u16>()?,
+        _ => return Ok(false),
     }
+    Ok(true)
 }
 
 impl Expected {
@@ -142,10 +130,9 @@ impl Expected {
 
 // The first word, and the rest behind the blank.
 fn cut(words: &str) -> anyhow::Result<(&str, &str)> {
-    match words.split_once(' ') {
-        Some(parts) => Ok(parts),
-        None => Err(anyhow!("a part of a vector has too few words")),
-    }
+    words
+        .split_once(' ')
+        .context("a part of a vector has too few words")
 }
 
 fn interlock(words: &str) -> anyhow::Result<Interlock> {
