@@ -1,19 +1,15 @@
 -- One position up adds the valve's weight to the setting, and one down takes it off. Assumes nothing.
-use Rattle.std.proofs.Common.{◌≡◌, ℕ, ◌+◌, ◌-◌, ◌*◌, ◌/◌, ◌%◌, ◌<◌, ◌≤◌, true, false, List, length, get_or, set, Some, None, sym, ap, ◌∙◌, subst, mul-add, arith}
+use Rattle.std.proofs.Common.{◌≡◌, ℕ, ◌+◌, ◌-◌, ◌*◌, ◌/◌, ◌%◌, ◌<◌, ◌≤◌, true, false, length, get_or, set, Some, None, sym, ap, ◌∙◌, subst, mul-add, arith}
 use Rattle.std.proofs.lemmas.Bool.{cond-true, cond-false, lt-ltb, le-ltb}
 use Rattle.valves.specs.declared.bench.Bench.{Bench}
 use Rattle.valves.specs.declared.bench.valve.Valve.{Valve}
-use Rattle.valves.specs.Positions.{setting, positions, weight, Within}
+use Rattle.valves.specs.Positions.{setting, weight, Within}
 use Rattle.valves.specs.Interlocks.{barred}
 use Rattle.valves.specs.Bench.{landed, raised, lowered, gone_up, gone_down}
-use Rattle.valves.specs.Of.{counts_of, interlocks_of}
+use Rattle.valves.specs.Of.{counts_of, interlocks_of, placed}
 use Rattle.valves.specs.Numbering.{positions_within, setting_positions, setting_below, setting_set, within_set}
 use Rattle.valves.specs.BenchLawful.{positive, settings_few}
 use Rattle.valves.specs.Invariant.{data_of, count_at, valve_in, weight_at, digit_at}
-
--- the positions at a setting
-abbrev pub placed : Bench → ℕ → List ℕ
-placed b s = positions (counts_of b) s
 
 pub placed_at : (b : Bench) (s v : ℕ) (x : Valve) (p : ℕ) → v < length b.valves.items → x ≡ get_or b.valves.items v x → p ≡ s / x.weight % x.positions → p ≡ get_or (placed b s) v 0
 placed_at b s v x p there is at = at ∙ (ap (λ y. s / y.weight % y.positions) is ∙ digit_at b s v x there)

@@ -17,6 +17,10 @@ counts_of b = positions_in b.valves.items
 abbrev pub interlocks_of : Bench → List Interlock
 interlocks_of b = locks_in b.rows.items
 
+-- the positions of its valves at a setting
+abbrev pub placed : Bench → ℕ → List ℕ
+placed b s = positions (counts_of b) s
+
 -- the plant that it is
 abbrev pub bench_of : Bench → Meaning
 bench_of b = bench (counts_of b) (interlocks_of b)

@@ -1,7 +1,7 @@
 // A bench as a plant: its questions, answered by its meaning.
 ghost use Rattle.std.specs.Prelude.{◌≡◌};
-ghost use Rattle.valves.specs.Positions.{positions as at_setting, apart as differences};
-ghost use Rattle.valves.specs.Of.{counts_of, bench_of};
+ghost use Rattle.valves.specs.Positions.{apart as differences};
+ghost use Rattle.valves.specs.Of.{bench_of, placed};
 ghost use Rattle.valves.specs.Invariant.{lawful_of};
 
 use crate::bench::Bench;
@@ -50,7 +50,7 @@ impl Plant for Bench {
 impl Bench {
     // The sum of the differences of position, valve by valve.
     fn apart(&self, from: u32, to: u32) -> u16
-        ensures { result ≡ differences (at_setting (counts_of self.now) from) (at_setting (counts_of self.now) to) }
+        ensures { result ≡ differences (placed self.now from) (placed self.now to) }
     {
         self.valves
             .iter()

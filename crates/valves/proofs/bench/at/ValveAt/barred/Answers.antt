@@ -1,8 +1,7 @@
 -- Each turn looks at the next interlock of the valve.
 use Rattle.std.proofs.Common.{◌≡◌, ◌<◌, ◌≤◌, get_or, length, sym, ap, ◌∙◌, subst, arith}
 use Rattle.std.proofs.lemmas.Bool.{ltb-true, ltb-false}
-use Rattle.valves.specs.Positions.{positions}
-use Rattle.valves.specs.Of.{counts_of}
+use Rattle.valves.specs.Of.{placed}
 use Rattle.valves.proofs.Rows.{AtRow, at_first, at_next, next_above, barred_here, free_past, other_in}
 use Rattle.valves.proofs.bench.at.ValveAt.barred.Goals.{In-Some}
 use Rattle.valves.proofs.bench.at.ValveAt.barred.Goals as goal
@@ -19,7 +18,7 @@ loop-row-init c =
     let x = c.index-deref-self.result in
     let a = c.args.self in
     let here = c.index-deref-self.is ∙ ap (λ l. get_or l a.valve x) c.deref.ensures.0 in
-    subst (AtRow a.bench.now a.valve c.args.from c.args.to (positions (counts_of a.bench.now) a.setting)) (ap (λ y. y.first) c.index-deref-self.is)
+    subst (AtRow a.bench.now a.valve c.args.from c.args.to (placed a.bench.now a.setting)) (ap (λ y. y.first) c.index-deref-self.is)
     (at_first a.bench.now a.valve _ _ _ x a.there here)
 
 pub applies-requires : goal.applies-requires

@@ -1,8 +1,8 @@
 -- Down, unless the valve is at its end or barred.
 use Rattle.std.proofs.Common.{◌<◌, sym, ap, ◌∙◌, get_or, arith}
 use Rattle.valves.specs.Interlocks.{barred}
-use Rattle.valves.specs.Of.{interlocks_of}
-use Rattle.valves.proofs.Steps.{placed, down_fits, down_at_end, down_barred, down_free}
+use Rattle.valves.specs.Of.{interlocks_of, placed}
+use Rattle.valves.proofs.Steps.{down_fits, down_at_end, down_barred, down_free}
 use Rattle.valves.proofs.bench.at.ValveAt.down.Goals as goal
 
 pub returns-in_err-to : goal.returns-in_err-to
