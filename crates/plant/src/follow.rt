@@ -18,10 +18,7 @@ fn walk<P: Plant>(plant: &P, start: u32, operations: &[u16]) -> Option<u32>
 {
     let mut setting = start;
     for operation in operations {
-        match plant.step(setting, *operation) {
-            Some(next) => setting = next,
-            None => return None,
-        }
+        setting = plant.step(setting, *operation)?;
     }
     Some(setting)
 }

@@ -11,8 +11,7 @@ use valves::interlock::Interlock;
 type Row<'a> = (&'a [u8], &'a [Interlock], BenchFault);
 
 fn check_faults(rt: &impl Abort, rows: &[Row<'_>]) {
-    for row in rows {
-        let (positions, interlocks, fault) = *row;
+    for &(positions, interlocks, fault) in rows {
         assert_eq!(rt; first_fault(positions, interlocks), Some(fault));
         assert_eq!(rt; Bench::new(positions, interlocks).err(), Some(fault));
     }
@@ -73,9 +72,9 @@ fn the_first_fault(rt: HostRuntime) {
 // The fewest and the most of everything make a bench, and so does an interlock that is written twice.
 #[test]
 fn benches_that_are_made(rt: HostRuntime) -> Result<(), Fail> {
-    check_size(&rt, &bench_of(&[2], &[])?, 2, 2)?;
-    check_size(&rt, &bench_of(&[2, 4], &[lock(1, 3, 0, 1); 32])?, 8, 4)?;
-    check_size(&rt, &bench_of(&[2; 12], &[lock(11, 0, 0, 0)])?, 4096, 24)?;
+    check_size(&rt, &bench_of(&[2], &[])?, 2, 2);
+    check_size(&rt, &bench_of(&[2, 4], &[lock(1, 3, 0, 1); 32])?, 8, 4);
+    check_size(&rt, &bench_of(&[2; 12], &[lock(11, 0, 0, 0)])?, 4096, 24);
     assert_eq!(rt; first_fault(&[4; 12], &[]), None);
     Ok(())
 }

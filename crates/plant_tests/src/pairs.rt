@@ -44,8 +44,8 @@ fn both_sides_of_a_pair(rt: HostRuntime) -> Result<(), Fail> {
         ],
     };
     assert!(rt; !pair.too_large());
-    check_steps(&rt, &pair, &first)?;
-    check_examples(&rt, &pair, examples)?;
+    check_steps(&rt, &pair, &first);
+    check_examples(&rt, &pair, examples);
     assert_eq!(rt; follow(&pair, 0, &[0, 4, 2, 5, 0, 8, 3]), Some(26));
     Ok(())
 }
@@ -56,12 +56,13 @@ fn parts_of_a_pair(rt: HostRuntime) -> Result<(), Fail> {
     assert_eq!(rt; pair.split(26), Some((2, 4)));
     assert_eq!(rt; pair.split(29), Some((5, 4)));
     assert_eq!(rt; pair.split(30), None);
-    check_size(&rt, pair.first(), 6, 4)?;
-    check_size(&rt, pair.second(), 5, 5)
+    check_size(&rt, pair.first(), 6, 4);
+    check_size(&rt, pair.second(), 5, 5);
+    Ok(())
 }
 
 // Bench A and two rings are the same plant, whichever two of them are paired first.
-fn check_bench_and_two_rings<P: Plant>(rt: &impl Abort, plant: &P) -> Result<(), Fail> {
+fn check_bench_and_two_rings<P: Plant>(rt: &impl Abort, plant: &P) {
     let examples = Examples {
         settings: 150,
         operations: 14,
@@ -73,22 +74,22 @@ fn check_bench_and_two_rings<P: Plant>(rt: &impl Abort, plant: &P) -> Result<(),
         reverses: &[(2, 3), (13, 13), (14, 14)],
         estimates: &[(0, 149, 5), (0, 146, 4), (0, 150, 0)],
     };
-    check_examples(rt, plant, examples)
+    check_examples(rt, plant, examples);
 }
 
 #[test]
 fn pairs_of_pairs(rt: HostRuntime) -> Result<(), Fail> {
     let inner = Pair::new(bench_and_ring()?, ring()?);
-    check_bench_and_two_rings(&rt, &inner)?;
+    check_bench_and_two_rings(&rt, &inner);
     assert_eq!(rt; inner.split(149), Some((29, 4)));
     let outer = Pair::new(bench_a()?, Pair::new(ring()?, ring()?));
-    check_bench_and_two_rings(&rt, &outer)?;
+    check_bench_and_two_rings(&rt, &outer);
     assert_eq!(rt; outer.split(149), Some((5, 24)));
     Ok(())
 }
 
 // A pair that is too large has one setting and no operation.
-fn check_too_large<F: Plant, S: Plant>(rt: &impl Abort, pair: &Pair<F, S>) -> Result<(), Fail> {
+fn check_too_large<F: Plant, S: Plant>(rt: &impl Abort, pair: &Pair<F, S>) {
     let examples = Examples {
         settings: 1,
         operations: 0,
@@ -97,10 +98,9 @@ fn check_too_large<F: Plant, S: Plant>(rt: &impl Abort, pair: &Pair<F, S>) -> Re
         estimates: &[(0, 0, 0), (0, 1, 0), (1, 0, 0)],
     };
     assert!(rt; pair.too_large());
-    check_examples(rt, pair, examples)?;
+    check_examples(rt, pair, examples);
     assert_eq!(rt; pair.split(0), Some((0, 0)));
     assert_eq!(rt; pair.split(1), None);
-    Ok(())
 }
 
 // A pair of just 16,777,216 settings is a plant of that many.
@@ -108,12 +108,13 @@ fn check_too_large<F: Plant, S: Plant>(rt: &impl Abort, pair: &Pair<F, S>) -> Re
 fn the_most_settings(rt: HostRuntime) -> Result<(), Fail> {
     let most = Pair::new(largest_bench()?, yard(1)?);
     assert!(rt; !most.too_large());
-    check_size(&rt, &most, 16_777_216, 24)?;
+    check_size(&rt, &most, 16_777_216, 24);
     check_steps(
         &rt,
         &most,
         &[(16_777_215, 23, Some(12_582_911)), (16_777_216, 0, None)],
-    )
+    );
+    Ok(())
 }
 
 // No pair of benches and tracks has one setting more than the most: 16,777,217 has the prime factor 673, which no track
@@ -121,9 +122,10 @@ fn the_most_settings(rt: HostRuntime) -> Result<(), Fail> {
 #[test]
 fn too_many_settings(rt: HostRuntime) -> Result<(), Fail> {
     let inner = Pair::new(yard(365)?, yard(145)?);
-    check_size(&rt, &inner, 52_925, 0)?;
-    check_too_large(&rt, &Pair::new(inner, yard(317)?))?;
-    check_too_large(&rt, &Pair::new(largest_bench()?, yard(2)?))
+    check_size(&rt, &inner, 52_925, 0);
+    check_too_large(&rt, &Pair::new(inner, yard(317)?));
+    check_too_large(&rt, &Pair::new(largest_bench()?, yard(2)?));
+    Ok(())
 }
 
 #[test]
@@ -131,16 +133,17 @@ fn too_many_operations(rt: HostRuntime) -> Result<(), Fail> {
     let wide = track_of(2, &[link(0, 1); 1024])?;
     let most = Pair::new(wide, wide);
     assert!(rt; !most.too_large());
-    check_size(&rt, &most, 4, 2048)?;
+    check_size(&rt, &most, 4, 2048);
     let ends = [
         (0, 1023, Some(1)),
         (0, 1024, Some(2)),
         (3, 2047, Some(1)),
         (0, 2048, None),
     ];
-    check_steps(&rt, &most, &ends)?;
+    check_steps(&rt, &most, &ends);
     let over = Pair::new(most, track_of(2, &[link(0, 1)])?);
-    check_too_large(&rt, &over)?;
+    check_too_large(&rt, &over);
     // a pair with one that is too large
-    check_size(&rt, &Pair::new(over, ring()?), 5, 5)
+    check_size(&rt, &Pair::new(over, ring()?), 5, 5);
+    Ok(())
 }

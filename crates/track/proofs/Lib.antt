@@ -1,3 +1,1 @@
-pub mod Used
-pub mod Rows
 pub mod Faultless

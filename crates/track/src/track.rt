@@ -11,6 +11,7 @@ pub mod questions;
 #[derive(Clone, Copy)]
 pub struct Track {
     stations: u16,
+    // Stays: an array with a count beside it, since `ArrayVec` is not `Copy`, and a track is
     count: u16,
     links: [Link; 1024],
     ghost room: { length links ≡ 1024 },

@@ -1,4 +1,4 @@
-pub mod FaultWalk
 pub mod Chains
 pub mod Rows
 pub mod Steps
+pub mod Pushed

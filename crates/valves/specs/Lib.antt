@@ -4,6 +4,7 @@ pub mod Bench
 pub mod Faults
 pub mod Data
 pub mod Tables
+pub mod Held
 pub mod Of
 pub mod Invariant
 pub mod Faultless

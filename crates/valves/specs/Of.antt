@@ -1,5 +1,5 @@
 -- What a bench was made of, what it means, and what making one answers. Assumes nothing.
-use Rattle.std.specs.Prelude.{◌≡◌, ℕ, cond, ◌&&◌, List, length, take, Some, None, Ok, Err, Option, Result, nat_lt, slice_index}
+use Rattle.std.specs.Prelude.{◌≡◌, ℕ, cond, ◌&&◌, List, length, Some, None, Ok, Err, Option, Result, nat_lt, slice_index}
 use Rattle.plant.specs.Meaning.{Meaning}
 use Rattle.valves.specs.declared.interlock.Interlock.{Interlock}
 use Rattle.valves.specs.declared.fault.BenchFault.{BenchFault}
@@ -7,14 +7,19 @@ use Rattle.valves.specs.declared.bench.Bench.{Bench}
 use Rattle.valves.specs.Positions.{product, positions}
 use Rattle.valves.specs.Bench.{bench}
 use Rattle.valves.specs.Faults.{bench_fault}
+use Rattle.valves.specs.Held.{positions_in, locks_in}
 
 -- the numbers of positions of its valves
 abbrev pub counts_of : Bench → List ℕ
-counts_of b = take b.valves b.positions
+counts_of b = positions_in b.valves.items
 
 -- its interlocks
 abbrev pub interlocks_of : Bench → List Interlock
-interlocks_of b = take b.rows b.interlocks
+interlocks_of b = locks_in b.rows.items
+
+-- the positions of its valves at a setting
+abbrev pub placed : Bench → ℕ → List ℕ
+placed b s = positions (counts_of b) s
 
 -- the plant that it is
 abbrev pub bench_of : Bench → Meaning

@@ -1,40 +1,32 @@
-// A valve bench: the numbers of positions and the interlocks it was made of, and tables made once so that a step
-// looks at one valve and at that valve's interlocks alone.
-ghost use Rattle.std.specs.Prelude.{◌≡◌, ◌≤◌, false, length, take, is_some};
+// A valve bench: its valves and its interlocks, each beside what is worked out once, so that a step looks at one valve
+// and at that valve's interlocks alone.
+ghost use Rattle.std.specs.Prelude.{◌≡◌, false, length, is_some};
 ghost use Rattle.valves.specs.Positions.{product};
 ghost use Rattle.valves.specs.Faults.{bench_fault};
-ghost use Rattle.valves.specs.Tables.{Weighs, Shares, Begins, GoesOn};
+ghost use Rattle.valves.specs.Tables.{Weighs, Begins, GoesOn};
+ghost use Rattle.valves.specs.Held.{positions_in, weights_in, firsts_in, locks_in, following_in};
 
-use crate::interlock::Interlock;
+use crate::bench::row::Row;
+use crate::bench::valve::Valve;
+use arrayvec::ArrayVec;
 
+mod at;
 mod look;
 mod make;
 pub mod questions;
+mod row;
 mod tables;
+mod valve;
 
 #[derive(Drop)]
 pub struct Bench {
-    // how many valves there are, and how many positions each has
-    valves: u8,
-    positions: [u8; 12],
-    // what one position of each valve adds to the setting
-    weights: [u32; 12],
-    // what part of a whole one setting of the valves up to each takes up: a product by it stands for two divisions
-    shares: [u64; 12],
-    settings: u32,
+    valves: ArrayVec<Valve, 12>,
     // the interlocks, in the order given
-    rows: u8,
-    interlocks: [Interlock; 32],
-    // the first interlock of each valve, and after each interlock the next of the same valve; `rows` for none
-    first: [u8; 12],
-    following: [u8; 32],
-    ghost twelve: { (length positions ≡ 12) × (length weights ≡ 12) × (length shares ≡ 12) × (length first ≡ 12) },
-    ghost thirty: { (length interlocks ≡ 32) × (length following ≡ 32) },
-    ghost fit: { (valves ≤ 12) × (rows ≤ 32) },
-    ghost faultless: { is_some (bench_fault (take valves positions) (take rows interlocks)) ≡ false },
-    ghost weighs: { Weighs (take valves positions) weights },
-    ghost shared: { Shares (take valves positions) shares },
-    ghost counts: { settings ≡ product (take valves positions) },
-    ghost begins: { Begins valves (take rows interlocks) first },
-    ghost goes: { GoesOn (take rows interlocks) following },
+    rows: ArrayVec<Row, 32>,
+    settings: u32,
+    ghost faultless: { is_some (bench_fault (positions_in valves.items) (locks_in rows.items)) ≡ false },
+    ghost weighs: { Weighs (positions_in valves.items) (weights_in valves.items) },
+    ghost counts: { settings ≡ product (positions_in valves.items) },
+    ghost begins: { Begins (length valves.items) (locks_in rows.items) (firsts_in valves.items) },
+    ghost goes: { GoesOn (locks_in rows.items) (following_in rows.items) },
 }

@@ -1,5 +1,6 @@
 // Checks the data of a bench: the number of valves, the number of interlocks, the positions, the interlocks.
 ghost use Rattle.std.specs.Prelude.{◌≡◌, ◌≤◌, ◌↔◌, length, None};
+ghost use Rattle.std.specs.Result.{result_err};
 ghost use Rattle.valves.specs.Faults.{positions_fault, interlock_fault, interlocks_fault, bench_fault};
 ghost use Rattle.valves.specs.Data.{BenchData};
 
@@ -20,79 +21,64 @@ pub fn first_fault(positions: &[u8], interlocks: &[Interlock]) -> Option<BenchFa
     ensures exact { result ≡ bench_fault positions.now interlocks.now }
     ensures none { (result ≡ None) ↔ BenchData positions.now interlocks.now }
 {
-    data_fault(positions, interlocks)
+    check(positions, interlocks).err()
 }
 
-fn data_fault(positions: &[u8], interlocks: &[Interlock]) -> Option<BenchFault>
-    ensures { result ≡ bench_fault positions.now interlocks.now }
+pub(crate) fn check(positions: &[u8], interlocks: &[Interlock]) -> Result<(), BenchFault>
+    ensures { result_err result ≡ bench_fault positions.now interlocks.now }
 {
-    let valves = positions.len();
-    if valves < 1 {
-        return Some(BenchFault::Valves);
-    }
-    if valves > VALVES {
-        return Some(BenchFault::Valves);
+    if positions.is_empty() || positions.len() > VALVES {
+        return Err(BenchFault::Valves);
     }
     if interlocks.len() > INTERLOCKS {
-        return Some(BenchFault::Interlocks);
+        return Err(BenchFault::Interlocks);
     }
-    match first_positions_fault(positions) {
-        Some(fault) => Some(fault),
-        None => first_interlocks_fault(positions, interlocks),
-    }
+    check_positions(positions)?;
+    check_interlocks(positions, interlocks)
 }
 
-// The first valve that has not 2 to 4 positions.
-fn first_positions_fault(positions: &[u8]) -> Option<BenchFault>
+// Each valve has 2 to 4 positions.
+fn check_positions(positions: &[u8]) -> Result<(), BenchFault>
     requires { length positions.now ≤ 12 }
-    ensures { result ≡ positions_fault positions.now 0 }
+    ensures { result_err result ≡ positions_fault positions.now 0 }
 {
     for (valve, count) in positions.iter().enumerate() {
-        if *count < FEWEST {
-            return Some(BenchFault::Positions(valve as u8));
-        }
-        if *count > MOST {
-            return Some(BenchFault::Positions(valve as u8));
+        if *count < FEWEST || *count > MOST {
+            return Err(BenchFault::Positions(valve as u8));
         }
     }
-    None
+    Ok(())
 }
 
-// The first fault of the interlocks, row by row.
-fn first_interlocks_fault(positions: &[u8], interlocks: &[Interlock]) -> Option<BenchFault>
+// The interlocks, row by row.
+fn check_interlocks(positions: &[u8], interlocks: &[Interlock]) -> Result<(), BenchFault>
     requires { length interlocks.now ≤ 32 }
-    ensures { result ≡ interlocks_fault positions.now interlocks.now 0 }
+    ensures { result_err result ≡ interlocks_fault positions.now interlocks.now 0 }
 {
     for (row, lock) in interlocks.iter().enumerate() {
-        match row_fault(positions, *lock, row as u8) {
-            Some(fault) => return Some(fault),
-            None => {}
-        }
+        check_row(positions, *lock, row as u8)?;
     }
-    None
+    Ok(())
 }
 
-// The first fault of the fields of one interlock.
-fn row_fault(positions: &[u8], lock: Interlock, row: u8) -> Option<BenchFault>
-    ensures { result ≡ interlock_fault positions.now lock row }
+// The fields of one interlock.
+fn check_row(positions: &[u8], lock: Interlock, row: u8) -> Result<(), BenchFault>
+    ensures { result_err result ≡ interlock_fault positions.now lock row }
 {
-    let valves = positions.len();
-    let valve = lock.valve as usize;
-    let other = lock.other as usize;
-    if valve >= valves {
-        return Some(BenchFault::Valve(row));
+    let own = positions
+        .get(lock.valve as usize)
+        .ok_or(BenchFault::Valve(row))?;
+    if lock.position >= *own {
+        return Err(BenchFault::Position(row));
     }
-    if lock.position >= positions[valve] {
-        return Some(BenchFault::Position(row));
+    let others = positions
+        .get(lock.other as usize)
+        .ok_or(BenchFault::Other(row))?;
+    if lock.other == lock.valve {
+        return Err(BenchFault::Same(row));
     }
-    if other >= valves {
-        return Some(BenchFault::Other(row));
+    if lock.stands >= *others {
+        return Err(BenchFault::Stands(row));
     }
-    if other == valve {
-        return Some(BenchFault::Same(row));
-    }
-    if lock.stands >= positions[other] {
-        return Some(BenchFault::Stands(row));
-    }
-    None
+    Ok(())
 }

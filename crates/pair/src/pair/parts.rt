@@ -1,6 +1,6 @@
 // Makes a pair, and takes it and its settings apart.
 ghost use Rattle.std.specs.Prelude.{◌≡◌, ◌<◌, false};
-ghost use Rattle.pair.specs.Meaning.{pair, too_large, parts, parts_in, moved};
+ghost use Rattle.pair.specs.Meaning.{too_large, parts, moved};
 ghost use Rattle.pair.specs.Pair.{first_of, second_of};
 
 use crate::pair::Pair;
@@ -17,7 +17,20 @@ impl<F: Plant, S: Plant> Pair<F, S> {
         ensures one { first_of result ≡ first }
         ensures other { second_of result ≡ second }
     {
-        Pair { first, second }
+        let first_settings = first.settings();
+        let first_operations = first.operations();
+        let settings = first_settings as u64 * second.settings() as u64;
+        let operations = first_operations as u32 + second.operations() as u32;
+        let large = (settings > SETTINGS) | (operations > OPERATIONS);
+        Pair {
+            first,
+            second,
+            large,
+            settings: if large { 1 } else { settings as u32 },
+            operations: if large { 0 } else { operations as u16 },
+            first_settings,
+            first_operations,
+        }
     }
 
     // The first plant.
@@ -38,38 +51,17 @@ impl<F: Plant, S: Plant> Pair<F, S> {
     pub fn too_large(&self) -> bool
         ensures { result ≡ too_large (F.Plant.meaning (first_of self.now)) (S.Plant.meaning (second_of self.now)) }
     {
-        let settings = self.first.settings() as u64 * self.second.settings() as u64;
-        let operations = self.first.operations() as u32 + self.second.operations() as u32;
-        (settings > SETTINGS) | (operations > OPERATIONS)
+        self.large
     }
 
     // The settings of the two plants in a setting of the pair. Out of range, none.
     pub fn split(&self, setting: u32) -> Option<(u32, u32)>
         ensures { result ≡ parts (F.Plant.meaning (first_of self.now)) (S.Plant.meaning (second_of self.now)) setting }
     {
-        self.split_in(self.range(), setting)
-    }
-
-    // The same where the range is known. Asking for it again would cost as much as the step.
-    pub(crate) fn split_in(&self, range: u32, setting: u32) -> Option<(u32, u32)>
-        ensures { result ≡ parts_in range (F.Plant.meaning (first_of self.now)).settings setting }
-    {
-        if setting < range {
-            let settings = self.first.settings();
-            Some((setting % settings, setting / settings))
-        } else {
-            None
+        if setting >= self.settings {
+            return None;
         }
-    }
-
-    // How many settings the pair has.
-    pub(crate) fn range(&self) -> u32
-        ensures { result ≡ (pair (F.Plant.meaning (first_of self.now)) (S.Plant.meaning (second_of self.now))).settings }
-    {
-        if self.too_large() {
-            return 1;
-        }
-        self.first.settings() * self.second.settings()
+        Some((setting % self.first_settings, setting / self.first_settings))
     }
 
     // Moves one of the plants, which are at these settings, and joins the two again.
@@ -79,18 +71,12 @@ impl<F: Plant, S: Plant> Pair<F, S> {
         requires second { other < (S.Plant.meaning (second_of self.now)).settings }
         ensures { result ≡ moved (F.Plant.meaning (first_of self.now)) (S.Plant.meaning (second_of self.now)) one other operation }
     {
-        let settings = self.first.settings();
-        let offset = self.first.operations();
-        if operation < offset {
-            match self.first.step(one, operation) {
-                Some(next) => Some(next + settings * other),
-                None => None,
-            }
+        if operation < self.first_operations {
+            let next = self.first.step(one, operation)?;
+            Some(next + self.first_settings * other)
         } else {
-            match self.second.step(other, operation - offset) {
-                Some(next) => Some(one + settings * next),
-                None => None,
-            }
+            let next = self.second.step(other, operation - self.first_operations)?;
+            Some(one + self.first_settings * next)
         }
     }
 }

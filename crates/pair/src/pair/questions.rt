@@ -16,51 +16,41 @@ impl<F: Plant, S: Plant> Plant for Pair<F, S> {
     ghost lawful = { λ x. pair_lawful _ _ (F.Plant.lawful x.first) (S.Plant.lawful x.second) };
 
     fn settings(&self) -> u32 {
-        self.range()
+        self.settings
     }
 
     fn operations(&self) -> u16 {
-        if self.too_large() {
-            return 0;
-        }
-        self.first.operations() + self.second.operations()
+        self.operations
     }
 
     fn step(&self, setting: u32, operation: u16) -> Option<u32> {
-        if self.too_large() {
+        if self.large {
             return None;
         }
-        let range = self.first.settings() * self.second.settings();
-        match self.split_in(range, setting) {
-            Some((one, other)) => self.move_one(one, other, operation),
-            None => None,
-        }
+        let (one, other) = self.split(setting)?;
+        self.move_one(one, other, operation)
     }
 
     fn reverse(&self, operation: u16) -> u16 {
-        if self.too_large() {
-            return operation;
-        }
-        let offset = self.first.operations();
-        if operation < offset {
+        if self.large {
+            operation
+        } else if operation < self.first_operations {
             self.first.reverse(operation)
         } else {
-            offset + self.second.reverse(operation - offset)
+            self.first_operations + self.second.reverse(operation - self.first_operations)
         }
     }
 
     fn estimate(&self, from: u32, to: u32) -> u16 {
-        if self.too_large() {
+        if self.large {
             return 0;
         }
-        let range = self.first.settings() * self.second.settings();
-        match (self.split_in(range, from), self.split_in(range, to)) {
-            (Some((one, other)), Some((one_to, other_to))) => {
-                let sum = self.first.estimate(one, one_to) as u32
-                    + self.second.estimate(other, other_to) as u32;
-                sum.min(CUT) as u16
-            }
-            _ => 0,
-        }
+        let (Some((one, other)), Some((one_to, other_to))) = (self.split(from), self.split(to))
+        else {
+            return 0;
+        };
+        let sum = self.first.estimate(one, one_to) as u32
+            + self.second.estimate(other, other_to) as u32;
+        sum.min(CUT) as u16
     }
 }

@@ -22,16 +22,9 @@ impl<P: Plant> Plant for Tagged<P> {
 
     fn step(&self, setting: u32, operation: u16) -> Option<u32> {
         // many operations lead nowhere, and then no tag matters
-        match self.below.step(setting, operation) {
-            Some(next) => {
-                if self.is_tagged(operation) {
-                    None
-                } else {
-                    Some(next)
-                }
-            }
-            None => None,
-        }
+        self.below
+            .step(setting, operation)
+            .filter(|_| !self.is_tagged(operation))
     }
 
     fn reverse(&self, operation: u16) -> u16 {

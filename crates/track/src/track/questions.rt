@@ -20,19 +20,15 @@ impl Plant for Track {
     }
 
     fn step(&self, setting: u32, operation: u16) -> Option<u32> {
-        match self.link(operation) {
-            Some(link) => {
-                let one = link.one as u32;
-                let other = link.other as u32;
-                if setting == one {
-                    Some(other)
-                } else if setting == other {
-                    Some(one)
-                } else {
-                    None
-                }
-            }
-            None => None,
+        let link = self.link(operation)?;
+        let one = u32::from(link.one);
+        let other = u32::from(link.other);
+        if setting == one {
+            Some(other)
+        } else if setting == other {
+            Some(one)
+        } else {
+            None
         }
     }
 
@@ -41,7 +37,7 @@ impl Plant for Track {
     }
 
     fn estimate(&self, from: u32, to: u32) -> u16 {
-        let stations = self.stations as u32;
+        let stations = self.settings();
         if from >= stations || to >= stations || from == to {
             0
         } else {

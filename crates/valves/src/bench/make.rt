@@ -4,10 +4,8 @@ ghost use Rattle.valves.specs.Data.{BenchData};
 ghost use Rattle.valves.specs.Of.{counts_of, interlocks_of, Makes};
 
 use crate::bench::Bench;
-use crate::bench::tables::{
-    Chains, Weights, chains_of, held_interlocks, held_positions, weights_of,
-};
-use crate::check::first_fault;
+use crate::bench::tables::{rows_of, valves_of};
+use crate::check::check;
 use crate::fault::BenchFault;
 use crate::interlock::Interlock;
 
@@ -16,10 +14,8 @@ impl Bench {
     pub fn new(positions: &[u8], interlocks: &[Interlock]) -> Result<Bench, BenchFault>
         ensures { Makes positions.now interlocks.now result }
     {
-        match first_fault(positions, interlocks) {
-            Some(fault) => Err(fault),
-            None => Ok(make(positions, interlocks)),
-        }
+        check(positions, interlocks)?;
+        Ok(make(positions, interlocks))
     }
 }
 
@@ -28,21 +24,10 @@ fn make(positions: &[u8], interlocks: &[Interlock]) -> Bench
     ensures counts { counts_of result ≡ positions.now }
     ensures locks { interlocks_of result ≡ interlocks.now }
 {
-    let Weights {
-        weights,
-        shares,
-        settings,
-    } = weights_of(positions);
-    let Chains { first, following } = chains_of(interlocks);
+    let (valves, settings) = valves_of(positions, interlocks);
     Bench {
-        valves: positions.len() as u8,
-        positions: held_positions(positions),
-        weights,
-        shares,
+        valves,
+        rows: rows_of(interlocks),
         settings,
-        rows: interlocks.len() as u8,
-        interlocks: held_interlocks(interlocks),
-        first,
-        following,
     }
 }

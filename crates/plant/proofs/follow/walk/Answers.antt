@@ -4,13 +4,14 @@ use Rattle.plant.specs.Follow.{on_from, after}
 use Rattle.plant.proofs.Leading.{after_more, after_all}
 use Rattle.plant.proofs.follow.walk.Goals as goal
 
-pub returns-in-None : goal.returns-in-None
-returns-in-None g c =
+pub returns-in_err-setting : goal.returns-in_err-setting
+returns-in_err-setting g c =
     let m = g.P.Plant.meaning c.args.plant.now in
     let os = c.args.operations.now in
     let i = c.loop-operation.operation-index in
-    sym (after_more m c.loop-operation.setting os i c.loop-operation-test.true
-    ∙ ap (λ x. on_from x (λ u. after m u (drop (i + 1) os))) (sym c.step.ensures ∙ c.in-None.is)) ∙ c.loop-operation.invariant
+    c.from_residual.ensures
+    ∙ (sym (after_more m c.loop-operation.setting os i c.loop-operation-test.true
+    ∙ ap (λ x. on_from x (λ u. after m u (drop (i + 1) os))) (sym c.step.ensures ∙ c.in_err-setting.was)) ∙ c.loop-operation.invariant)
 
 pub loop-operation-preserved : goal.loop-operation-preserved
 loop-operation-preserved g c =
@@ -18,7 +19,7 @@ loop-operation-preserved g c =
     let os = c.args.operations.now in
     let i = c.loop-operation.operation-index in
     sym (after_more m c.loop-operation.setting os i c.loop-operation-test.true
-    ∙ ap (λ x. on_from x (λ u. after m u (drop (i + 1) os))) (sym c.step.ensures ∙ c.in-Some.is)) ∙ c.loop-operation.invariant
+    ∙ ap (λ x. on_from x (λ u. after m u (drop (i + 1) os))) (sym c.step.ensures ∙ c.in_ok-setting.was)) ∙ c.loop-operation.invariant
 
 pub returns : goal.returns
 returns g c =

@@ -5,6 +5,6 @@ use Rattle.valves.proofs.check.first_fault.Goals as goal
 
 pub returns : goal.returns
 returns c = record {
-  exact = c.data_fault.ensures;
-  none = (λ e. data_from_none _ _ (sym c.data_fault.ensures ∙ e), λ k. c.data_fault.ensures ∙ none_from_data _ _ k);
+  exact = c.err.ensures.value ∙ c.check.ensures;
+  none = (λ e. data_from_none _ _ (sym c.check.ensures ∙ (sym c.err.ensures.value ∙ e)), λ k. c.err.ensures.value ∙ (c.check.ensures ∙ none_from_data _ _ k));
 }

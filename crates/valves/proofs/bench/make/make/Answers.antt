@@ -1,8 +1,10 @@
--- The tables are those of the data, which the places hold.
-use Rattle.std.proofs.Common.{◌≡◌, false, length, take, is_some, sym, ap, subst, arith, rules}
+-- What is kept is the data, and what is worked out of them.
+use Rattle.std.proofs.Common.{◌≡◌, false, length, is_some, sym, ap, ◌∙◌, subst, arith}
+use Rattle.std.proofs.lemmas.List.{length-map}
 use Rattle.valves.specs.Positions.{product}
 use Rattle.valves.specs.Faults.{bench_fault}
-use Rattle.valves.specs.Tables.{Weighs, Shares, Begins, GoesOn}
+use Rattle.valves.specs.Tables.{Weighs, Begins, GoesOn}
+use Rattle.valves.specs.Held.{weights_in, firsts_in, locks_in, following_in}
 use Rattle.valves.specs.Faultless.{none_from_data}
 use Rattle.valves.proofs.bench.make.make.Goals as goal
 
@@ -10,17 +12,15 @@ pub invariant_of-result : goal.invariant_of-result
 invariant_of-result c =
     let ns = c.args.positions.now in
     let ls = c.args.interlocks.now in
-    let held = sym c.held_positions.ensures in
-    let locks = sym c.held_interlocks.ensures in
+    let vs = c.valves_of-valves.result.0.items in
+    let rs = c.rows_of.result.items in
+    let held = sym c.valves_of-valves.ensures.held in
+    let locks = sym c.rows_of.ensures.held in
+    let long : length vs ≡ length ns = sym (length-map vs (λ y. y.positions)) ∙ ap length (sym held) in
     record {
-      twelve = search rules;
-      thirty = search rules;
-      fit = (c.requires.valves_most, c.requires.rows_most);
-      faultless =
-          subst (λ x. is_some (bench_fault x (take (length ls) c.held_interlocks.result)) ≡ false) held (subst (λ x. is_some (bench_fault ns x) ≡ false) locks (ap is_some (none_from_data ns ls c.requires)));
-      weighs = subst (λ x. Weighs x c.weights_of-settings.result.weights) held c.weights_of-settings.ensures.weighs;
-      shared = subst (λ x. Shares x c.weights_of-settings.result.shares) held c.weights_of-settings.ensures.shared;
-      counts = subst (λ x. c.weights_of-settings.result.settings ≡ product x) held c.weights_of-settings.ensures.counts;
-      begins = subst (λ x. Begins (length ns) x c.chains_of.result.first) locks (λ v h. c.chains_of.ensures.begins v (omega arith));
-      goes = subst (λ x. GoesOn x c.chains_of.result.following) locks c.chains_of.ensures.goes;
+      faultless = subst (λ x. is_some (bench_fault x (locks_in rs)) ≡ false) held (subst (λ x. is_some (bench_fault ns x) ≡ false) locks (ap is_some (none_from_data ns ls c.requires)));
+      weighs = subst (λ x. Weighs x (weights_in vs)) held c.valves_of-valves.ensures.weighs;
+      counts = subst (λ x. c.valves_of-valves.result.1 ≡ product x) held c.valves_of-valves.ensures.counts;
+      begins = subst (λ x. Begins (length vs) x (firsts_in vs)) locks (λ v h. c.valves_of-valves.ensures.begins v (omega arith));
+      goes = subst (λ x. GoesOn x (following_in rs)) locks c.rows_of.ensures.goes;
     }

@@ -1,7 +1,0 @@
--- What was copied in front is what is taken from the front.
-use Rattle.std.proofs.Common.{length, ap, ◌∙◌}
-use Rattle.std.proofs.lemmas.List.{take_at}
-use Rattle.valves.proofs.bench.tables.held_interlocks.Goals as goal
-
-pub returns : goal.returns
-returns c = take_at _ _ _ (ap length c.copy_from_slice.ensures.after) ∙ c.copy_from_slice.ensures.after

@@ -1,7 +1,0 @@
--- What is left gives the first fault of all.
-use Rattle.std.proofs.Common.{◌≡◌, drop}
-use Rattle.valves.specs.Faults.{positions_fault}
-use Rattle.valves.proofs.check.first_positions_fault.Given as goal
-
-abbrev pub invariant-loop-valve : goal.invariant-loop-valve
-invariant-loop-valve l = positions_fault (drop l.valve l.positions) l.valve ≡ positions_fault l.positions 0
