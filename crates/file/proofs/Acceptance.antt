@@ -1,5 +1,5 @@
 -- What a file without a fault meets. Assumes nothing.
-use Rattle.std.proofs.Common.{◌≡◌, ℕ, zero, suc, ◌+◌, ◌-◌, ◌*◌, ◌≤◌, Bool, true, false, cond, not, eqb, ltb, List, length, get_or, drop, is_some, Some, None, Option, sym, refl, ap, ◌∙◌, arith, length-drop}
+use Rattle.std.proofs.Common.{◌≡◌, ℕ, zero, suc, ◌+◌, ◌*◌, ◌≤◌, Bool, true, false, cond, not, eqb, ltb, List, drop, is_some, Some, None, Option, refl, arith}
 use Rattle.std.specs.Option.{option_map}
 use Rattle.std.proofs.lemmas.Bool.{and_from, eqb-true, true≢false}
 use Rattle.std.proofs.lemmas.Bool.Decides.{nat_tests}
@@ -10,9 +10,8 @@ use Rattle.faults.specs.declared.fault.FileFault.{FileFault}
 use Rattle.faults.specs.declared.fault.FileFault.TheVariants.{TooShort, TooLong, Contents, Body}
 use Rattle.file.specs.declared.kind.Reader.{Reader}
 use Rattle.file.specs.Kinds.{kind_of, takes, takes_kind}
-use Rattle.file.specs.Contents.{row_kind, row_zero, rows_fault, rows_length, known_rows}
-use Rattle.file.proofs.CheckByCheck.{behind_head, behind_head_rows, told_by}
-use Rattle.file.specs.Read.{entries, rows, told_length, bodies_fault, contents_then, head_fault, length_fault, or_else, read_fault}
+use Rattle.file.specs.Contents.{row_kind, row_zero, rows_fault, known_rows}
+use Rattle.file.specs.Read.{entries, rows, bodies_fault, contents_then, head_fault, length_fault, or_else, read_fault}
 
 -- no fault at all is none of either
 pub neither : (o g : Option FileFault) → or_else o g ≡ None → (o ≡ None) × (g ≡ None)
@@ -81,21 +80,6 @@ rows_known r (suc e) i rs h =
     let p = row_parts r e i rs h in
     and_from (is_some (kind_of (row_kind rs))) (known_rows e (drop 4 rs)) (taken_known r (row_kind rs) p.0) (rows_known r e (suc i) (drop 4 rs) p.2)
 
--- a file whose fault was looked for and is none
-pub file_accepted : (r : Reader) (file : List ℕ) (o : Option FileFault) → is_some o ≡ is_some (read_fault r file) → o ≡ None → Accepted r file
-file_accepted r file o h e = accepted r file (none_from (read_fault r file) (sym h ∙ ap is_some e))
-
-pub accepted_few : (r : Reader) (file : List ℕ) → Accepted r file → length file ≤ 65535
-accepted_few r file a = (head_numbers (length file) (entries file) (get_or file 1 0) a.head).0
-
-pub accepted_there : (r : Reader) (file : List ℕ) → Accepted r file → 4 * entries file ≤ length (behind_head file)
-accepted_there r file a =
-    let h : 2 + 4 * entries file ≤ length file = (head_numbers (length file) (entries file) (get_or file 1 0) a.head).4 in
-    let l : length (behind_head file) ≡ length file - 2 = ap length (behind_head_rows file) ∙ length-drop 2 file in
-    omega arith
-
-pub accepted_whole : (r : Reader) (file : List ℕ) → Accepted r file → (2 + 4 * entries file) + rows_length (entries file) (behind_head file) ≡ length file
-accepted_whole r file a = told_by file (rows_length (entries file) (behind_head file)) refl ∙ length_numbers (length file) (told_length file) a.whole
-
-pub accepted_known : (r : Reader) (file : List ℕ) → Accepted r file → known_rows (entries file) (behind_head file) ≡ true
-accepted_known r file a = ap (known_rows (entries file)) (behind_head_rows file) ∙ rows_known r (entries file) 0 (rows file) a.contents
+-- the rows of a file without a fault are of kinds that there are
+pub faultless_known : (r : Reader) (file : List ℕ) → is_some (read_fault r file) ≡ false → known_rows (entries file) (rows file) ≡ true
+faultless_known r file h = rows_known r (entries file) 0 (rows file) (accepted r file (none_from (read_fault r file) h)).contents
