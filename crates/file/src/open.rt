@@ -1,6 +1,7 @@
 // The entries of a file that was read, and the file with its fault.
-ghost use Rattle.std.specs.Prelude.{◌≡◌};
+ghost use Rattle.std.specs.Prelude.{◌≡◌, IfOk};
 ghost use Rattle.std.specs.List.{slice_get};
+ghost use Rattle.std.specs.Result.{result_err};
 ghost use Rattle.file.specs.Read.{entries, parts, read_fault};
 ghost use Rattle.file.specs.Held.{entries_bytes};
 ghost use Rattle.file.specs.Files.{file_bytes, file_reader, file_fault, entries_of, entry_of, seen, BodySeen, StandsIn};
@@ -58,18 +59,26 @@ impl<'a> File<'a> {
         }
     }
 
+    // The entries of the file, or its first fault.
+    pub fn checked(&self) -> Result<Entries<'a>, FileFault>
+        ensures fault { result_err result ≡ file_fault self.now }
+        ensures bytes { IfOk result (λ entries. entries_bytes entries ≡ file_bytes self.now) }
+    {
+        self.entries
+    }
+
     // The first fault of the file, if it has one.
     pub fn fault(&self) -> Option<FileFault>
         ensures { result ≡ file_fault self.now }
     {
-        self.entries.err()
+        self.checked().err()
     }
 
     // How many entries the file has; none where it has a fault.
     pub fn entries(&self) -> u8
         ensures { result ≡ entries_of (file_fault self.now) (file_bytes self.now) }
     {
-        self.entries.map_or(0, |entries| entries.len())
+        self.checked().map_or(0, |entries| entries.len())
     }
 
     // The entry with a number, from 0; none past the last, and none where the file has a fault.
@@ -77,6 +86,6 @@ impl<'a> File<'a> {
         ensures which { seen result ≡ entry_of (file_fault self.now) (file_bytes self.now) number }
         ensures part { StandsIn (file_bytes self.now) (seen result) }
     {
-        self.entries.ok()?.get(number)
+        self.checked().ok()?.get(number)
     }
 }
