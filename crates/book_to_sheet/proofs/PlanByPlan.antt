@@ -18,13 +18,12 @@ use Rattle.plant_bodies.specs.TrackRule.{stations_in}
 use Rattle.plants_read.specs.Tracks.{track_links}
 use Rattle.plants_read.proofs.BenchBodies.{body_faultless as bench-faultless}
 use Rattle.plants_read.proofs.TrackBodies.{track_faultless}
-use Rattle.faults.specs.declared.fault.FileFault.{FileFault}
 use Rattle.file.specs.declared.kind.Kind.{Kind}
 use Rattle.file.specs.declared.kind.Kind.TheVariants as kind
 use Rattle.file.specs.declared.kind.Reader.TheVariants.{AllKinds}
 use Rattle.file.specs.Kinds.{kind_of}
 use Rattle.file.specs.Parts.{Part}
-use Rattle.file.specs.Read.{parts, or_else, read_fault}
+use Rattle.file.specs.Read.{parts, read_fault}
 use Rattle.sheet_reader.proofs.ReadBack.{reads_back}
 use Rattle.book_sheet.specs.Jobs.{kind_plant, plant_in, steps_on, job_steps, kind_steps, entry_steps}
 use Rattle.book_sheet.specs.Sheets.{put, answers_from, book_steps, sheet_of}
@@ -100,8 +99,3 @@ module _ (book : List ℕ) (h : read_fault AllKinds book ≡ None) where
 
   pub written_short : (n : ℕ) → n ≡ length (sheet_of book) → all_sound (book_steps book) ≡ true → n ≤ 65535
   written_short n long sound = let short = sheet_short (book_steps book) sound (bodies_few book h) in omega (arith, long, short)
-
--- a book without a fault is a file without one
-pub file_none : (o g : Option FileFault) → None ≡ or_else o g → o ≡ None
-file_none None g e = refl
-file_none (Some f) g e = let z : ◌≡◌ {A = ℕ} 0 1 = cc in absurd (omega arith)
