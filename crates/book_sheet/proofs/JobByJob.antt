@@ -27,7 +27,7 @@ use Rattle.book_sheet.specs.Sheets.{put, answers_from, book_steps, job_count, jo
 
 mapped_none : {A B : Type 0} (f : A → B) (o : Option A) → option_map f o ≡ None → o ≡ None
 mapped_none f None e = refl
-mapped_none f (Some x) e = let z : ◌≡◌ {A = ℕ} 0 1 = cc in absurd (omega arith)
+mapped_none f (Some x) e = cc
 
 some_mapped : {A B : Type 0} (f : A → B) (o : Option A) → is_some (option_map f o) ≡ is_some o
 some_mapped f None = refl
@@ -36,10 +36,10 @@ some_mapped f (Some x) = refl
 -- a body among bodies without a fault has none
 neither : (a b : Option BodyFault) → first_fault a b ≡ None → (a ≡ None) × (b ≡ None)
 neither None b e = (refl, e)
-neither (Some f) b e = let z : ◌≡◌ {A = ℕ} 0 1 = cc in absurd (omega arith)
+neither (Some f) b e = cc
 
 pub none_at : (rs : List ℕ) (i : ℕ) (es : List Part) (j : ℕ) (x : Part) → parts_fault rs i es ≡ None → slice_get es j ≡ Some x → part_fault rs (i + j) x ≡ None
-none_at rs i [] j x e s = let z : ◌≡◌ {A = ℕ} 0 1 = cc in absurd (omega arith)
+none_at rs i [] j x e s = cc
 none_at rs i (y ∷ es) zero x e s =
     let same : x ≡ y = cc in
     let here : i + 0 ≡ i = omega arith in
@@ -66,7 +66,7 @@ kind_at (suc e) rs p bs (suc k) h =
     kind_at e (drop 4 rs) (p + row_length rs) (drop (row_length rs) bs) k (omega arith) ∙ ap (λ t. Some (row_kind t)) (further k rs)
 
 within : (e : ℕ) (rs : List ℕ) (p : ℕ) (bs : List ℕ) (n : ℕ) (x : Part) → slice_get (parts_from e rs p bs) n ≡ Some x → n < e
-within zero rs p bs n x s = let z : ◌≡◌ {A = ℕ} 0 1 = cc in absurd (omega arith)
+within zero rs p bs n x s = cc
 within (suc e) rs p bs zero x s = omega arith
 within (suc e) rs p bs (suc n) x s = let h = within e (drop 4 rs) (p + row_length rs) (drop (row_length rs) bs) n x s in omega arith
 
@@ -79,15 +79,15 @@ plant_kind (Some kind.Job) bs e = e
 plant_kind (Some kind.Steps) bs e = e
 
 plant_there : (o : Option Part) (n : ℕ) → option_map (λ (x : Part). x.kind) o ≡ Some n → is_plant (kind_of n) ≡ true → is_some (plant_in o) ≡ true
-plant_there None n e p = let z : ◌≡◌ {A = ℕ} 0 1 = cc in absurd (omega arith)
+plant_there None n e p = cc
 plant_there (Some y) n e p =
     let same : y.kind ≡ n = cc in
     plant_kind (kind_of y.kind) y.bytes (ap (λ m. is_plant (kind_of m)) same ∙ p)
 
 -- a job without a fault is one, and names a plant before it
 passed : (a b : Bool) (f g : JobFault) (o : Option JobFault) → cond (not a) (Some f) (cond (not b) (Some g) o) ≡ None → (a ≡ true) × (b ≡ true)
-passed false b f g o e = let z : ◌≡◌ {A = ℕ} 0 1 = cc in absurd (omega arith)
-passed true false f g o e = let z : ◌≡◌ {A = ℕ} 0 1 = cc in absurd (omega arith)
+passed false b f g o e = cc
+passed true false f g o e = cc
 passed true true f g o e = (refl, refl)
 
 abbrev the_job : List ℕ → Job

@@ -55,7 +55,7 @@ among_put None xs b ys a = a
 among_put (Some c) xs b ys a = record { bytes = omega (arith, a.bytes); number = omega (arith, a.number) }
 
 among_first : (o : Option Steps) (b : Steps) (ys : List Steps) → o ≡ Some b → Among [] b (put o ys)
-among_first None b ys e = let z : ◌≡◌ {A = ℕ} 0 1 = cc in absurd (omega arith)
+among_first None b ys e = cc
 among_first (Some c) b ys e = let same : body_length b ≡ body_length c = ap body_length (let f : b ≡ c = cc in f) in record { bytes = omega (arith, same); number = omega arith }
 
 pub among_answers : (all es : List Part) (i : ℕ) (b : Steps) → i < length es → steps_at all (slice_get es i) ≡ Some b → Among (answers_from all (take i es)) b (answers_from all es)

@@ -35,7 +35,7 @@ use Rattle.book_to_sheet.proofs.FaultlessBodies.{body_faultless}
 
 -- a body without a fault describes a lawful plant
 kind_lawful : (k : Option Kind) (e : Part) (m : Meaning) → BodyFaultless e → kind_of e.kind ≡ k → kind_plant k e.bytes ≡ Some m → Lawful m
-kind_lawful None e m ok is said = let z : ◌≡◌ {A = ℕ} 0 1 = cc in absurd (omega arith)
+kind_lawful None e m ok is said = cc
 kind_lawful (Some kind.Valves) e m ok is said =
     let data-there = data_from_none (body_positions e.bytes) (body_interlocks e.bytes) (bench-faultless e.bytes (sym (ok.bench is))) in
     let same : _ ≡ m = cc in
@@ -44,17 +44,17 @@ kind_lawful (Some kind.Track) e m ok is said =
     let right = track_faultless e.bytes (sym (ok.track is)) in
     let same : _ ≡ m = cc in
     subst Lawful same (track_lawful (stations_in e.bytes) (track_links e.bytes) (ap is_some right))
-kind_lawful (Some kind.Job) e m ok is said = let z : ◌≡◌ {A = ℕ} 0 1 = cc in absurd (omega arith)
-kind_lawful (Some kind.Steps) e m ok is said = let z : ◌≡◌ {A = ℕ} 0 1 = cc in absurd (omega arith)
+kind_lawful (Some kind.Job) e m ok is said = cc
+kind_lawful (Some kind.Steps) e m ok is said = cc
 
 plant_lawful : (book : List ℕ) → read_fault AllKinds book ≡ None → (n : ℕ) (o : Option Part) → slice_get (parts book) n ≡ o → (m : Meaning) → plant_in o ≡ Some m → Lawful m
-plant_lawful book h n None e m said = let z : ◌≡◌ {A = ℕ} 0 1 = cc in absurd (omega arith)
+plant_lawful book h n None e m said = cc
 plant_lawful book h n (Some x) e m said = kind_lawful (kind_of x.kind) x m (body_faultless book n x h e) refl said
 
 -- the body of a job that is answered is its plan
 module _ (book : List ℕ) (h : read_fault AllKinds book ≡ None) where
   plant_planned : (j : Part) (x : Job) (o : Option Meaning) (b : Steps) → job_of j.bytes ≡ Some x → plant_in (slice_get (parts book) x.entry) ≡ o → option_map (steps_on x) o ≡ Some b → JobPlanned (parts book) j b
-  plant_planned j x None b r p e = let z : ◌≡◌ {A = ℕ} 0 1 = cc in absurd (omega arith)
+  plant_planned j x None b r p e = cc
   plant_planned j x (Some m) b r p e = record {
     job = x;
     plant = m;
@@ -65,7 +65,7 @@ module _ (book : List ℕ) (h : read_fault AllKinds book ≡ None) where
   }
 
   job_planned : (j : Part) (o : Option Job) (b : Steps) → job_of j.bytes ≡ o → job_steps (parts book) o ≡ Some b → JobPlanned (parts book) j b
-  job_planned j None b r e = let z : ◌≡◌ {A = ℕ} 0 1 = cc in absurd (omega arith)
+  job_planned j None b r e = cc
   job_planned j (Some x) b r e = plant_planned j x (plant_in (slice_get (parts book) x.entry)) b r refl e
 
   -- one entry: a job and its plan, or neither

@@ -16,15 +16,15 @@ use Rattle.file.specs.Read.{entries, rows, bodies_fault, contents_then, head_fau
 -- no fault at all is none of either
 pub neither : (o g : Option FileFault) → or_else o g ≡ None → (o ≡ None) × (g ≡ None)
 neither None g h = (refl, h)
-neither (Some f) g h = absurd (let z : ◌≡◌ {A = ℕ} 0 1 = cc in omega arith)
+neither (Some f) g h = cc
 
 pub neither_contents : (o : Option ContentsFault) (g : Option FileFault) → contents_then o g ≡ None → (o ≡ None) × (g ≡ None)
 neither_contents None g h = (refl, h)
-neither_contents (Some f) g h = absurd (let z : ◌≡◌ {A = ℕ} 0 1 = cc in omega arith)
+neither_contents (Some f) g h = cc
 
 pub none_mapped : (o : Option BodyFault) → option_map Body o ≡ None → o ≡ None
 none_mapped None h = refl
-none_mapped (Some f) h = absurd (let z : ◌≡◌ {A = ℕ} 0 1 = cc in omega arith)
+none_mapped (Some f) h = cc
 
 pub none_from : {A : Type 0} (o : Option A) → is_some o ≡ false → o ≡ None
 none_from None h = refl
@@ -69,9 +69,9 @@ row_parts r e i rs h = split (takes r (row_kind rs)) (eqb (row_zero rs) 0) refl 
       cond (not t) (Some (contents.Kind i)) (cond (not z) (Some (contents.RowZero i)) (rows_fault r e (suc i) (drop 4 rs))) ≡ None →
       (takes r (row_kind rs) ≡ true) × (row_zero rs ≡ 0) × (rows_fault r e (suc i) (drop 4 rs) ≡ None)
   split true true p q g = (p, eqb-true (row_zero rs) 0 q, g)
-  split true false p q g = absurd (let w : ◌≡◌ {A = ℕ} 0 1 = cc in omega arith)
-  split false true p q g = absurd (let w : ◌≡◌ {A = ℕ} 0 1 = cc in omega arith)
-  split false false p q g = absurd (let w : ◌≡◌ {A = ℕ} 0 1 = cc in omega arith)
+  split true false p q g = cc
+  split false true p q g = cc
+  split false false p q g = cc
 
 -- rows without a fault are of kinds that there are
 pub rows_known : (r : Reader) (e i : ℕ) (rs : List ℕ) → rows_fault r e i rs ≡ None → known_rows e rs ≡ true

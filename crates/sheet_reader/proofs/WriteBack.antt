@@ -39,11 +39,11 @@ taken_steps k h = four (eqb k 1) (eqb k 2) (eqb k 3) (eqb k 4) refl h where
 -- no fault among several is none of each
 pub first_none : (o g : Option BodyFault) → first_fault o g ≡ None → (o ≡ None) × (g ≡ None)
 first_none None g h = (refl, h)
-first_none (Some f) g h = absurd (let z : ◌≡◌ {A = ℕ} 0 1 = cc in omega arith)
+first_none (Some f) g h = cc
 
 pub steps_none : (o : Option StepsFault) (p : ℕ) → option_map (body.Steps p) o ≡ None → o ≡ None
 steps_none None p h = refl
-steps_none (Some f) p h = absurd (let z : ◌≡◌ {A = ℕ} 0 1 = cc in omega arith)
+steps_none (Some f) p h = cc
 
 -- a body without a fault has the length that its row tells
 pub body_row : (bs : List ℕ) (lo hi : ℕ) → Bytes bs → lo < 256 → hi < 256 → steps_fault bs ≡ None → length bs ≡ value (lo ∷ (hi ∷ [])) →
