@@ -3,15 +3,11 @@ use Rattle.std.proofs.Common.{◌≡◌, ℕ, zero, suc, ◌+◌, ◌<◌, ◌�
 use Rattle.std.specs.List.{slice_get}
 use Rattle.std.specs.Option.{MatchOption}
 use Rattle.faults.specs.declared.fault.FileFault.{FileFault}
-use Rattle.file.specs.Contents.{row_length}
-use Rattle.file.specs.Parts.{Part, parts_from}
+use Rattle.file.specs.Parts.{Part}
 use Rattle.file.specs.Read.{entries, rows, contents_end}
 use Rattle.file.specs.Files.{entries_of}
+use Rattle.file.proofs.BodyByBody.{length_parts}
 use Rattle.book.specs.Book.{is_steps, steps_from, entries_in}
-
-length_parts : (e : ℕ) (rs : List ℕ) (p : ℕ) (bs : List ℕ) → length (parts_from e rs p bs) ≡ e
-length_parts zero rs p bs = refl
-length_parts (suc e) rs p bs = ap (λ n. suc n) (length_parts e (drop 4 rs) (p + row_length rs) (drop (row_length rs) bs))
 
 pub entries_are : (o : Option FileFault) (file : List ℕ) → length (entries_in o file) ≡ entries_of o file
 entries_are (Some f) file = refl

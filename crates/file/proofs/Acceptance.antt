@@ -11,6 +11,7 @@ use Rattle.faults.specs.declared.fault.FileFault.TheVariants.{TooShort, TooLong,
 use Rattle.file.specs.declared.kind.Reader.{Reader}
 use Rattle.file.specs.Kinds.{kind_of, takes, takes_kind}
 use Rattle.file.specs.Contents.{row_kind, row_zero, rows_fault, known_rows}
+use Rattle.file.specs.Parts.{first_fault}
 use Rattle.file.specs.Read.{entries, rows, bodies_fault, contents_then, head_fault, length_fault, or_else, read_fault}
 
 -- no fault at all is none of either
@@ -22,9 +23,13 @@ pub neither_contents : (o : Option ContentsFault) (g : Option FileFault) → con
 neither_contents None g h = (refl, h)
 neither_contents (Some f) g h = cc
 
-pub none_mapped : (o : Option BodyFault) → option_map Body o ≡ None → o ≡ None
-none_mapped None h = refl
-none_mapped (Some f) h = cc
+pub neither_body : (o g : Option BodyFault) → first_fault o g ≡ None → (o ≡ None) × (g ≡ None)
+neither_body None g h = (refl, h)
+neither_body (Some f) g h = cc
+
+pub none_mapped : {A B : Type 0} (f : A → B) (o : Option A) → option_map f o ≡ None → o ≡ None
+none_mapped f None h = refl
+none_mapped f (Some x) h = cc
 
 pub none_from : {A : Type 0} (o : Option A) → is_some o ≡ false → o ≡ None
 none_from None h = refl
@@ -42,7 +47,7 @@ accepted r file h =
     let a = neither (head_fault file) _ h in
     let b = neither_contents (rows_fault r (entries file) 0 (rows file)) _ a.1 in
     let d = neither (length_fault file) _ b.1 in
-    record { head = a.0; contents = b.0; whole = d.0; bodies = none_mapped (bodies_fault file) d.1 }
+    record { head = a.0; contents = b.0; whole = d.0; bodies = none_mapped Body (bodies_fault file) d.1 }
 
 -- the numbers of the head
 pub head_numbers : (n e z : ℕ) →

@@ -1,5 +1,5 @@
 -- The entries whose bodies are left, one by one. Assumes nothing.
-use Rattle.std.proofs.Common.{◌≡◌, ℕ, suc, ◌+◌, ◌-◌, ◌≤◌, drop, Some, None, Option, sym, ap, ◌∙◌, subst, arith}
+use Rattle.std.proofs.Common.{List, length, zero, suc, refl, ◌≡◌, ℕ, ◌+◌, ◌-◌, ◌≤◌, drop, Some, None, Option, sym, ap, ◌∙◌, subst, arith}
 use Rattle.std.proofs.lemmas.List.{drop-drop}
 use Rattle.std.specs.List.{slice_get}
 use Rattle.file.specs.declared.body.Body.{Body}
@@ -31,3 +31,8 @@ pub none_past : (s rest : Bodies) (i k : ℕ) → i ≤ k → rest.rows.left ≡
 none_past s rest i k h l f =
     let same : i + (k - i) ≡ k = omega arith in
     sym (ap (slice_get (parts_left s)) same) ∙ (sym (f (k - i)) ∙ none_left rest (k - i) l)
+
+-- there are as many entries as rows
+pub length_parts : (e : ℕ) (rs : List ℕ) (p : ℕ) (bs : List ℕ) → length (parts_from e rs p bs) ≡ e
+length_parts zero rs p bs = refl
+length_parts (suc e) rs p bs = ap (λ n. suc n) (length_parts e (drop 4 rs) (p + row_length rs) (drop (row_length rs) bs))
