@@ -1,42 +1,42 @@
 -- The entries of a book, one by one. Assumes nothing.
-use Rattle.std.proofs.Common.{◌≡◌, ℕ, zero, suc, ◌+◌, ◌<◌, ◌≤◌, true, false, cond, List, [], ◌∷◌, length, drop, Some, None, Option, sym, refl, ap, ◌∙◌, add-one, arith}
+use Rattle.std.proofs.Common.{◌≡◌, ℕ, zero, suc, ◌+◌, ◌<◌, ◌≤◌, true, false, cond, List, [], ◌∷◌, length, drop, Some, None, Option, sym, refl, ap, ◌∙◌, arith}
 use Rattle.std.specs.List.{slice_get}
-use Rattle.std.proofs.lemmas.List.{drop_all}
-use Rattle.std.proofs.lemmas.Bool.{false≢true}
+use Rattle.std.specs.Option.{MatchOption}
 use Rattle.faults.specs.declared.fault.FileFault.{FileFault}
-use Rattle.file.specs.Contents.{row_length}
-use Rattle.file.specs.Parts.{Part, parts_from}
+use Rattle.file.specs.Parts.{Part}
 use Rattle.file.specs.Read.{entries, rows, contents_end}
-use Rattle.file.specs.Files.{entries_of, entry_of}
+use Rattle.file.specs.Files.{entries_of}
+use Rattle.file.proofs.BodyByBody.{length_parts}
 use Rattle.book.specs.Book.{is_steps, steps_from, entries_in}
-
-length_parts : (e : ℕ) (rs : List ℕ) (p : ℕ) (bs : List ℕ) → length (parts_from e rs p bs) ≡ e
-length_parts zero rs p bs = refl
-length_parts (suc e) rs p bs = ap (λ n. suc n) (length_parts e (drop 4 rs) (p + row_length rs) (drop (row_length rs) bs))
 
 pub entries_are : (o : Option FileFault) (file : List ℕ) → length (entries_in o file) ≡ entries_of o file
 entries_are (Some f) file = refl
 entries_are None file = length_parts (entries file) (rows file) (contents_end file) (drop (contents_end file) file)
 
-pub entry_is : (o : Option FileFault) (file : List ℕ) (n : ℕ) → entry_of o file n ≡ slice_get (entries_in o file) n
-entry_is (Some f) file n = refl
-entry_is None file n = refl
+-- where no entry is a steps body, there is no first
+steps_none : (es : List Part) (j : ℕ) → ((k : ℕ) → k < length es → is_steps (slice_get es k) ≡ false) → None ≡ steps_from j es
+steps_none [] j h = refl
+steps_none (e ∷ es) j h = steps_none es (suc j) (λ k l. h (suc k) (omega arith)) ∙ sym (ap (λ b. cond b (Some j) (steps_from (suc j) es)) (h 0 (omega arith)))
 
--- a steps body gives the answer, any other entry leaves it to those behind
-pub steps_here : (es : List Part) (i k : ℕ) (a : Option ℕ) → is_steps (slice_get es i) ≡ true → steps_from k (drop i es) ≡ a → Some k ≡ a
-steps_here [] i k a h f = absurd (false≢true h)
-steps_here (e ∷ es) zero k a h f = sym (ap (λ b. cond b (Some k) (steps_from (suc k) es)) h) ∙ f
-steps_here (e ∷ es) (suc i) k a h f = steps_here es i k a h f
+-- one before which there is none is the first
+steps_first : (es : List Part) (j i : ℕ) → i < length es → is_steps (slice_get es i) ≡ true → ((k : ℕ) → k < i → is_steps (slice_get es k) ≡ false) →
+    Some (j + i) ≡ steps_from j es
+steps_first [] j i l h g = absurd (omega arith)
+steps_first (e ∷ es) j zero l h g =
+    let same : j + 0 ≡ j = omega arith in
+    ap (λ k. Some k) same ∙ sym (ap (λ b. cond b (Some j) (steps_from (suc j) es)) h)
+steps_first (e ∷ es) j (suc i) l h g =
+    let same : j + suc i ≡ suc j + i = omega arith in
+    ap (λ k. Some k) same
+    ∙ (steps_first es (suc j) i (omega arith) h (λ k b. g (suc k) (omega arith))
+    ∙ sym (ap (λ b. cond b (Some j) (steps_from (suc j) es)) (g 0 (omega arith))))
 
-pub steps_behind : (es : List Part) (i k : ℕ) (a : Option ℕ) → i < length es → is_steps (slice_get es i) ≡ false → steps_from k (drop i es) ≡ a →
-    steps_from (suc k) (drop (suc i) es) ≡ a
-steps_behind [] i k a l h f = absurd (omega arith)
-steps_behind (e ∷ es) zero k a l h f = sym (ap (λ b. cond b (Some k) (steps_from (suc k) es)) h) ∙ f
-steps_behind (e ∷ es) (suc i) k a l h f = steps_behind es i k a (omega arith) h f
-
-pub steps_more : (es : List Part) (i : ℕ) (a : Option ℕ) → i < length es → is_steps (slice_get es i) ≡ false → steps_from i (drop i es) ≡ a →
-    steps_from (i + 1) (drop (i + 1) es) ≡ a
-steps_more es i a l h f = ap (λ j. steps_from j (drop j es)) (add-one i) ∙ steps_behind es i i a l h f
-
-pub steps_none : (es : List Part) (i k : ℕ) (a : Option ℕ) → length es ≤ i → steps_from k (drop i es) ≡ a → None ≡ a
-steps_none es i k a h f = ap (steps_from k) (sym (drop_all i es h)) ∙ f
+-- what a search through the numbers of the entries finds
+pub steps_found : (es : List Part) (n : ℕ) (r : Option ℕ) → length es ≡ n →
+    MatchOption r ((k : ℕ) → 0 ≤ k → k < n → is_steps (slice_get es k) ≡ false)
+    (λ i. (0 ≤ i) × (i < n) × (is_steps (slice_get es i) ≡ true) × ((k : ℕ) → 0 ≤ k → k < i → is_steps (slice_get es k) ≡ false)) →
+    r ≡ steps_from 0 es
+steps_found es n None l h = steps_none es 0 (λ k b. h k (omega arith) (omega arith))
+steps_found es n (Some i) l h =
+    let same : i ≡ 0 + i = omega arith in
+    ap (λ k. Some k) same ∙ steps_first es 0 i (omega arith) h.2 (λ k b. h.3 k (omega arith) b)

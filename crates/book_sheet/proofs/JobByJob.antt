@@ -12,48 +12,39 @@ use Rattle.bodies.specs.declared.job.Job.{Job}
 use Rattle.bodies.specs.JobRule.{job_fault, job_of}
 use Rattle.plant_bodies.specs.BenchRule.{valves_fault}
 use Rattle.plant_bodies.specs.TrackRule.{track_fault}
-use Rattle.faults.specs.declared.fault.BodyFault.{BodyFault}
 use Rattle.faults.specs.declared.fault.BodyFault.TheVariants as body
 use Rattle.file.specs.declared.kind.Kind.{Kind}
 use Rattle.file.specs.declared.kind.Kind.TheVariants as kind
 use Rattle.file.specs.declared.kind.Reader.TheVariants.{AllKinds}
 use Rattle.file.specs.Kinds.{kind_of, is_plant}
 use Rattle.file.specs.Contents.{row_kind, row_length}
-use Rattle.file.specs.Parts.{Part, parts_from, plant_before, kind_fault, part_fault, first_fault, parts_fault}
+use Rattle.file.specs.Parts.{Part, parts_from, plant_before, kind_fault, part_fault, parts_fault}
 use Rattle.file.specs.Read.{entries, rows, contents_end, parts, read_fault}
-use Rattle.file.proofs.Acceptance.{accepted, head_numbers}
+use Rattle.file.proofs.Acceptance.{accepted, head_numbers, neither_body, none_mapped}
 use Rattle.book_sheet.specs.Jobs.{kind_plant, plant_in, steps_on, job_steps, kind_steps, entry_steps}
 use Rattle.book_sheet.specs.Sheets.{put, answers_from, book_steps, job_count, jobs_in}
-
-mapped_none : {A B : Type 0} (f : A → B) (o : Option A) → option_map f o ≡ None → o ≡ None
-mapped_none f None e = refl
-mapped_none f (Some x) e = let z : ◌≡◌ {A = ℕ} 0 1 = cc in absurd (omega arith)
 
 some_mapped : {A B : Type 0} (f : A → B) (o : Option A) → is_some (option_map f o) ≡ is_some o
 some_mapped f None = refl
 some_mapped f (Some x) = refl
 
 -- a body among bodies without a fault has none
-neither : (a b : Option BodyFault) → first_fault a b ≡ None → (a ≡ None) × (b ≡ None)
-neither None b e = (refl, e)
-neither (Some f) b e = let z : ◌≡◌ {A = ℕ} 0 1 = cc in absurd (omega arith)
-
 pub none_at : (rs : List ℕ) (i : ℕ) (es : List Part) (j : ℕ) (x : Part) → parts_fault rs i es ≡ None → slice_get es j ≡ Some x → part_fault rs (i + j) x ≡ None
-none_at rs i [] j x e s = let z : ◌≡◌ {A = ℕ} 0 1 = cc in absurd (omega arith)
+none_at rs i [] j x e s = cc
 none_at rs i (y ∷ es) zero x e s =
     let same : x ≡ y = cc in
     let here : i + 0 ≡ i = omega arith in
-    ap (λ n. part_fault rs n x) here ∙ (ap (part_fault rs i) same ∙ (neither (part_fault rs i y) (parts_fault rs (suc i) es) e).0)
+    ap (λ n. part_fault rs n x) here ∙ (ap (part_fault rs i) same ∙ (neither_body (part_fault rs i y) (parts_fault rs (suc i) es) e).0)
 none_at rs i (y ∷ es) (suc j) x e s =
     let here : i + suc j ≡ suc i + j = omega arith in
-    ap (λ n. part_fault rs n x) here ∙ none_at rs (suc i) es j x (neither (part_fault rs i y) (parts_fault rs (suc i) es) e).1 s
+    ap (λ n. part_fault rs n x) here ∙ none_at rs (suc i) es j x (neither_body (part_fault rs i y) (parts_fault rs (suc i) es) e).1 s
 
 -- the body of a bench or a track without a fault, by its own rule
 pub valves_none : (rs : List ℕ) (i : ℕ) (x : Part) → part_fault rs i x ≡ None → kind_of x.kind ≡ Some kind.Valves → valves_fault x.bytes ≡ None
-valves_none rs i x e k = mapped_none (body.Valves x.place) (valves_fault x.bytes) (ap (λ o. kind_fault rs i o x.place x.bytes) (sym k) ∙ e)
+valves_none rs i x e k = none_mapped (body.Valves x.place) (valves_fault x.bytes) (ap (λ o. kind_fault rs i o x.place x.bytes) (sym k) ∙ e)
 
 pub track_none : (rs : List ℕ) (i : ℕ) (x : Part) → part_fault rs i x ≡ None → kind_of x.kind ≡ Some kind.Track → track_fault x.bytes ≡ None
-track_none rs i x e k = mapped_none (body.Track x.place) (track_fault x.bytes) (ap (λ o. kind_fault rs i o x.place x.bytes) (sym k) ∙ e)
+track_none rs i x e k = none_mapped (body.Track x.place) (track_fault x.bytes) (ap (λ o. kind_fault rs i o x.place x.bytes) (sym k) ∙ e)
 
 -- the entry with a number is of the kind of its row
 further : (k : ℕ) (rs : List ℕ) → drop (4 * k) (drop 4 rs) ≡ drop (4 * suc k) rs
@@ -66,7 +57,7 @@ kind_at (suc e) rs p bs (suc k) h =
     kind_at e (drop 4 rs) (p + row_length rs) (drop (row_length rs) bs) k (omega arith) ∙ ap (λ t. Some (row_kind t)) (further k rs)
 
 within : (e : ℕ) (rs : List ℕ) (p : ℕ) (bs : List ℕ) (n : ℕ) (x : Part) → slice_get (parts_from e rs p bs) n ≡ Some x → n < e
-within zero rs p bs n x s = let z : ◌≡◌ {A = ℕ} 0 1 = cc in absurd (omega arith)
+within zero rs p bs n x s = cc
 within (suc e) rs p bs zero x s = omega arith
 within (suc e) rs p bs (suc n) x s = let h = within e (drop 4 rs) (p + row_length rs) (drop (row_length rs) bs) n x s in omega arith
 
@@ -79,15 +70,15 @@ plant_kind (Some kind.Job) bs e = e
 plant_kind (Some kind.Steps) bs e = e
 
 plant_there : (o : Option Part) (n : ℕ) → option_map (λ (x : Part). x.kind) o ≡ Some n → is_plant (kind_of n) ≡ true → is_some (plant_in o) ≡ true
-plant_there None n e p = let z : ◌≡◌ {A = ℕ} 0 1 = cc in absurd (omega arith)
+plant_there None n e p = cc
 plant_there (Some y) n e p =
     let same : y.kind ≡ n = cc in
     plant_kind (kind_of y.kind) y.bytes (ap (λ m. is_plant (kind_of m)) same ∙ p)
 
 -- a job without a fault is one, and names a plant before it
 passed : (a b : Bool) (f g : JobFault) (o : Option JobFault) → cond (not a) (Some f) (cond (not b) (Some g) o) ≡ None → (a ≡ true) × (b ≡ true)
-passed false b f g o e = let z : ◌≡◌ {A = ℕ} 0 1 = cc in absurd (omega arith)
-passed true false f g o e = let z : ◌≡◌ {A = ℕ} 0 1 = cc in absurd (omega arith)
+passed false b f g o e = cc
+passed true false f g o e = cc
 passed true true f g o e = (refl, refl)
 
 abbrev the_job : List ℕ → Job
@@ -106,7 +97,7 @@ entry_answered book n x h s k =
     let bs = x.bytes in
     let none : part_fault rs n x ≡ None = ap (λ i. part_fault rs i x) (let z : n ≡ 0 + n = omega arith in z) ∙ none_at rs 0 es n x (accepted AllKinds book h).bodies s in
     let wrong : option_map (body.Job x.place) (job_fault (plant_before rs n (get_or bs 0 0)) bs) ≡ None = ap (λ i. kind_fault rs n i x.place bs) (sym k) ∙ none in
-    let right = passed (eqb (length bs) 12) (plant_before rs n (get_or bs 0 0)) job.Length job.Entry _ (mapped_none (body.Job x.place) _ wrong) in
+    let right = passed (eqb (length bs) 12) (plant_before rs n (get_or bs 0 0)) job.Length job.Entry _ (none_mapped (body.Job x.place) _ wrong) in
     let named = and_parts (ltb (get_or bs 0 0) n) (is_plant (kind_of (row_kind (drop (4 * get_or bs 0 0) rs)))) right.1 in
     let before : get_or bs 0 0 < n = ltb-true (get_or bs 0 0) n named.0 in
     let there : n < entries book = within (entries book) rs (contents_end book) _ n x s in

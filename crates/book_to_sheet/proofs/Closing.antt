@@ -34,7 +34,7 @@ head_short bs n room r jobs few e =
 pub all_there : (s : State) (buffer : List ℕ) (bs : List Steps) (rest : List ℕ) (r : SheetRefusal) → Written s buffer bs rest → s.declared ≡ length bs → close_refusal s ≡ Some r → ⊥
 all_there s buffer bs rest r w all e =
     let none : close_refusal s ≡ None = ap (λ b. cond b (Some UnderCount) None) (le-ltb s.filled s.declared (omega (arith, w.filled, all))) in
-    let z : ◌≡◌ {A = ℕ} 0 1 = cc in omega arith
+    cc
 
 -- the sheet stands at the front, and what was behind it stays
 module _ (s : State) (before after : List ℕ) (bs : List Steps) (jobs n : ℕ) (w : Written s after bs (drop (bodies_length bs) (drop (2 + 4 * jobs) before))) (declared : s.declared ≡ length bs) (same : jobs ≡ length bs) (end : n ≡ s.end) where

@@ -1,33 +1,35 @@
 -- The entries of a book, one more at a time: how many are jobs, and their answers. Assumes nothing.
-use Rattle.std.proofs.Common.{◌≡◌, ℕ, zero, suc, ◌+◌, ◌<◌, ◌≤◌, List, [], ◌∷◌, ◌++◌, length, take, Some, None, Option, sym, refl, ap, ◌∙◌, add-one, arith}
-use Rattle.std.specs.List.{slice_get}
-use Rattle.file.specs.declared.file.File.{File}
+use Rattle.std.proofs.Common.{◌≡◌, ℕ, zero, suc, ◌+◌, ◌<◌, ◌≤◌, cond, eqb, List, [], ◌∷◌, ◌++◌, length, take, Some, None, Option, sym, refl, ap, ◌∙◌, add-one, arith}
+use Rattle.std.specs.List.{slice_get, filter, range_with_len}
 use Rattle.file.specs.Kinds.{kind_of}
 use Rattle.file.specs.Parts.{Part}
-use Rattle.file.specs.Files.{file_bytes, file_fault, entries_of}
-use Rattle.book.proofs.EntryByEntry.{entries_are}
 use Rattle.sheet.specs.Steps.{Steps}
 use Rattle.sheet.specs.Bytes.{body_length, bodies_length}
-use Rattle.book_sheet.specs.Sheets.{put, answers_from, jobs_in}
+use Rattle.book_sheet.specs.Sheets.{put, answers_from, job_count, jobs_in}
 use Rattle.book_sheet.proofs.JobByJob.{count_few}
-use Rattle.book_to_sheet.specs.Entries.{Faultless, parts_of, steps_at, jobs_of, jobs_at}
+use Rattle.book_to_sheet.specs.Entries.{steps_at, jobs_of, jobs_at}
 
--- a file without a fault tells how many entries it has
-pub all_entries : (f : File) → Faultless f → (n : ℕ) → n ≡ entries_of (file_fault f) (file_bytes f) → n ≡ length (parts_of f)
-all_entries f ok n e = e ∙ (ap (λ o. entries_of o (file_bytes f)) ok.told ∙ sym (entries_are None (file_bytes f)))
+-- one entry is a job or is none
+job_one : (t k : ℕ) (xs : List ℕ) → t ≤ 1 → length (cond (eqb t 1) (k ∷ xs) xs) ≡ t + length xs
+job_one zero k xs h = omega arith
+job_one (suc zero) k xs h = omega arith
+job_one (suc (suc t)) k xs h = absurd (omega arith)
 
-jobs_one : (es : List Part) (i : ℕ) → i < length es → jobs_in (take (suc i) es) ≡ jobs_in (take i es) + jobs_at es i
-jobs_one [] i h = absurd (omega arith)
-jobs_one (e ∷ es) zero h = omega arith
-jobs_one (e ∷ es) (suc i) h = let r = jobs_one es i (omega arith) in omega arith
+jobs_from : (all es : List Part) (k : ℕ) → ((j : ℕ) → j < length es → slice_get all (k + j) ≡ slice_get es j) →
+    length (filter (λ i. eqb (jobs_at all i) 1) (range_with_len k (length es))) ≡ jobs_in es
+jobs_from all [] k h = refl
+jobs_from all (e ∷ es) k h =
+    let here : slice_get all k ≡ Some e = ap (slice_get all) (let same : k ≡ k + 0 = omega arith in same) ∙ h 0 (omega arith) in
+    let behind = jobs_from all es (k + 1) (λ j l. ap (slice_get all) (let same : k + 1 + j ≡ k + suc j = omega arith in same) ∙ h (suc j) (omega arith)) in
+    let xs = filter (λ i. eqb (jobs_at all i) 1) (range_with_len (k + 1) (length es)) in
+    ap (λ o. length (cond (eqb (jobs_of o) 1) (k ∷ xs) xs)) here
+    ∙ (job_one (job_count (kind_of e.kind)) k xs (count_few (kind_of e.kind)) ∙ ap (λ n. job_count (kind_of e.kind) + n) behind)
 
--- one entry more is a job or is none
-pub jobs_more : (es : List Part) (i : ℕ) → i < length es → jobs_in (take (i + 1) es) ≡ jobs_in (take i es) + jobs_at es i
-jobs_more es i h = ap (λ k. jobs_in (take k es)) (add-one i) ∙ jobs_one es i h
-
-pub jobs_at_few : (o : Option Part) → jobs_of o ≤ 1
-jobs_at_few None = omega arith
-jobs_at_few (Some e) = count_few (kind_of e.kind)
+-- the numbers of the jobs, counted
+pub jobs_counted : (es : List Part) (n : ℕ) → length es ≡ n → length (filter (λ i. eqb (jobs_at es i) 1) (range_with_len 0 n)) ≡ jobs_in es
+jobs_counted es n h =
+    ap (λ m. length (filter (λ i. eqb (jobs_at es i) 1) (range_with_len 0 m))) (sym h)
+    ∙ jobs_from es es 0 (λ j l. ap (slice_get es) (let same : 0 + j ≡ j = omega arith in same))
 
 -- one entry more adds its answer, if it has one
 put_behind : (o : Option Steps) (xs ys : List Steps) → put o (xs ++ ys) ≡ put o xs ++ ys
@@ -53,7 +55,7 @@ among_put None xs b ys a = a
 among_put (Some c) xs b ys a = record { bytes = omega (arith, a.bytes); number = omega (arith, a.number) }
 
 among_first : (o : Option Steps) (b : Steps) (ys : List Steps) → o ≡ Some b → Among [] b (put o ys)
-among_first None b ys e = let z : ◌≡◌ {A = ℕ} 0 1 = cc in absurd (omega arith)
+among_first None b ys e = cc
 among_first (Some c) b ys e = let same : body_length b ≡ body_length c = ap body_length (let f : b ≡ c = cc in f) in record { bytes = omega (arith, same); number = omega arith }
 
 pub among_answers : (all es : List Part) (i : ℕ) (b : Steps) → i < length es → steps_at all (slice_get es i) ≡ Some b → Among (answers_from all (take i es)) b (answers_from all es)

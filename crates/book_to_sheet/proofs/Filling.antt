@@ -1,5 +1,5 @@
 -- The sheet while the answers to a book's jobs are put on it, entry by entry. Assumes nothing.
-use Rattle.std.proofs.Common.{◌≡◌, ℕ, ◌+◌, ◌*◌, ◌<◌, ◌≤◌, Bool, true, false, cond, ltb, List, [], ◌++◌, length, take, drop, is_some, Some, None, Option, sym, refl, ap, ◌∙◌, subst, ⊎_elim, arith}
+use Rattle.std.proofs.Common.{◌≡◌, ℕ, ◌+◌, ◌*◌, ◌<◌, ◌≤◌, Bool, true, false, cond, ltb, List, [], ◌++◌, length, take, drop, is_some, Some, None, Ok, Err, Option, sym, refl, ap, ◌∙◌, subst, ⊎_elim, arith}
 use Rattle.std.proofs.lemmas.List.{drop-drop, take_all}
 use Rattle.std.proofs.lemmas.Bool.{cases_lt, lt-leb, le-ltb, false≢true}
 use Rattle.sheet.specs.declared.refusal.SheetRefusal.{SheetRefusal}
@@ -26,8 +26,8 @@ pub put_none : (all : List Part) (s : State) (buffer : List ℕ) → PutSoFar al
 put_none all s buffer = record { declared = refl; written = λ rest w. w }
 
 module _ (all : List Part) (s₀ s s' : State) (buffer₀ buffer buffer' : List ℕ) (n : ℕ) (there : n < length all) (so_far : PutSoFar all s₀ s buffer₀ buffer n) where
-  pub put_more : EntryPut (numbered_steps all n) s s' buffer buffer' true → PutSoFar all s₀ s' buffer₀ buffer' (n + 1)
-  put_more e =
+  pub put_more : (u : Unit {0}) → EntryPut (numbered_steps all n) s s' buffer buffer' (Ok u) → PutSoFar all s₀ s' buffer₀ buffer' (n + 1)
+  put_more u e =
       let now = answers_from all (take n all) in
       let one = put (numbered_steps all n) [] in
       let more : answers_from all (take (n + 1) all) ≡ now ++ one = answers_more all all n there in
@@ -57,9 +57,9 @@ no_room s k room h e = ⊎_elim (λ lower. lower) wide (cases_lt room (s.end + (
 
 -- a body that does not fit makes the whole sheet too long
 module _ (all : List Part) (s₀ s s' : State) (buffer₀ buffer buffer' : List ℕ) (n : ℕ) (there : n < length all) (so_far : PutSoFar all s₀ s buffer₀ buffer n) where
-  pub refused_short : length buffer ≡ length buffer₀ → EntryPut (numbered_steps all n) s s' buffer buffer' false → length (answers_from all all) ≤ 64 →
+  pub refused_short : (r : SheetRefusal) → length buffer ≡ length buffer₀ → EntryPut (numbered_steps all n) s s' buffer buffer' (Err r) → length (answers_from all all) ≤ 64 →
       (rest : List ℕ) → Written s₀ buffer₀ [] rest → s₀.declared ≡ length (answers_from all all) → (length buffer₀ < length (complete (answers_from all all))) × (length buffer₀ ≤ 65535)
-  refused_short long (b, is, kept, refused) few rest w₀ jobs =
+  refused_short r long (b, is, kept, refused) few rest w₀ jobs =
       let w = so_far.written rest w₀ in
       let now = answers_from all (take n all) in
       let among = among_answers all all n b there is in

@@ -1,4 +1,3 @@
-pub mod JobAnswers
 pub mod FaultlessBodies
 pub mod EntryByEntry
 pub mod Putting
@@ -6,3 +5,4 @@ pub mod Filling
 pub mod Closing
 pub mod PlanByPlan
 pub mod Sixteens
+pub mod Refused

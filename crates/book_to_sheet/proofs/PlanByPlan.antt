@@ -18,13 +18,12 @@ use Rattle.plant_bodies.specs.TrackRule.{stations_in}
 use Rattle.plants_read.specs.Tracks.{track_links}
 use Rattle.plants_read.proofs.BenchBodies.{body_faultless as bench-faultless}
 use Rattle.plants_read.proofs.TrackBodies.{track_faultless}
-use Rattle.faults.specs.declared.fault.FileFault.{FileFault}
 use Rattle.file.specs.declared.kind.Kind.{Kind}
 use Rattle.file.specs.declared.kind.Kind.TheVariants as kind
 use Rattle.file.specs.declared.kind.Reader.TheVariants.{AllKinds}
 use Rattle.file.specs.Kinds.{kind_of}
 use Rattle.file.specs.Parts.{Part}
-use Rattle.file.specs.Read.{parts, or_else, read_fault}
+use Rattle.file.specs.Read.{parts, read_fault}
 use Rattle.sheet_reader.proofs.ReadBack.{reads_back}
 use Rattle.book_sheet.specs.Jobs.{kind_plant, plant_in, steps_on, job_steps, kind_steps, entry_steps}
 use Rattle.book_sheet.specs.Sheets.{put, answers_from, book_steps, sheet_of}
@@ -36,7 +35,7 @@ use Rattle.book_to_sheet.proofs.FaultlessBodies.{body_faultless}
 
 -- a body without a fault describes a lawful plant
 kind_lawful : (k : Option Kind) (e : Part) (m : Meaning) → BodyFaultless e → kind_of e.kind ≡ k → kind_plant k e.bytes ≡ Some m → Lawful m
-kind_lawful None e m ok is said = let z : ◌≡◌ {A = ℕ} 0 1 = cc in absurd (omega arith)
+kind_lawful None e m ok is said = cc
 kind_lawful (Some kind.Valves) e m ok is said =
     let data-there = data_from_none (body_positions e.bytes) (body_interlocks e.bytes) (bench-faultless e.bytes (sym (ok.bench is))) in
     let same : _ ≡ m = cc in
@@ -45,17 +44,17 @@ kind_lawful (Some kind.Track) e m ok is said =
     let right = track_faultless e.bytes (sym (ok.track is)) in
     let same : _ ≡ m = cc in
     subst Lawful same (track_lawful (stations_in e.bytes) (track_links e.bytes) (ap is_some right))
-kind_lawful (Some kind.Job) e m ok is said = let z : ◌≡◌ {A = ℕ} 0 1 = cc in absurd (omega arith)
-kind_lawful (Some kind.Steps) e m ok is said = let z : ◌≡◌ {A = ℕ} 0 1 = cc in absurd (omega arith)
+kind_lawful (Some kind.Job) e m ok is said = cc
+kind_lawful (Some kind.Steps) e m ok is said = cc
 
 plant_lawful : (book : List ℕ) → read_fault AllKinds book ≡ None → (n : ℕ) (o : Option Part) → slice_get (parts book) n ≡ o → (m : Meaning) → plant_in o ≡ Some m → Lawful m
-plant_lawful book h n None e m said = let z : ◌≡◌ {A = ℕ} 0 1 = cc in absurd (omega arith)
+plant_lawful book h n None e m said = cc
 plant_lawful book h n (Some x) e m said = kind_lawful (kind_of x.kind) x m (body_faultless book n x h e) refl said
 
 -- the body of a job that is answered is its plan
 module _ (book : List ℕ) (h : read_fault AllKinds book ≡ None) where
   plant_planned : (j : Part) (x : Job) (o : Option Meaning) (b : Steps) → job_of j.bytes ≡ Some x → plant_in (slice_get (parts book) x.entry) ≡ o → option_map (steps_on x) o ≡ Some b → JobPlanned (parts book) j b
-  plant_planned j x None b r p e = let z : ◌≡◌ {A = ℕ} 0 1 = cc in absurd (omega arith)
+  plant_planned j x None b r p e = cc
   plant_planned j x (Some m) b r p e = record {
     job = x;
     plant = m;
@@ -66,7 +65,7 @@ module _ (book : List ℕ) (h : read_fault AllKinds book ≡ None) where
   }
 
   job_planned : (j : Part) (o : Option Job) (b : Steps) → job_of j.bytes ≡ o → job_steps (parts book) o ≡ Some b → JobPlanned (parts book) j b
-  job_planned j None b r e = let z : ◌≡◌ {A = ℕ} 0 1 = cc in absurd (omega arith)
+  job_planned j None b r e = cc
   job_planned j (Some x) b r e = plant_planned j x (plant_in (slice_get (parts book) x.entry)) b r refl e
 
   -- one entry: a job and its plan, or neither
@@ -100,8 +99,3 @@ module _ (book : List ℕ) (h : read_fault AllKinds book ≡ None) where
 
   pub written_short : (n : ℕ) → n ≡ length (sheet_of book) → all_sound (book_steps book) ≡ true → n ≤ 65535
   written_short n long sound = let short = sheet_short (book_steps book) sound (bodies_few book h) in omega (arith, long, short)
-
--- a book without a fault is a file without one
-pub file_none : (o g : Option FileFault) → None ≡ or_else o g → o ≡ None
-file_none None g e = refl
-file_none (Some f) g e = let z : ◌≡◌ {A = ℕ} 0 1 = cc in absurd (omega arith)

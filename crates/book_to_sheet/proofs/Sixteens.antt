@@ -26,7 +26,7 @@ sheet_short bs sound few = omega (arith, length_sheet (length bs) bs, sounds_sho
 
 -- a steps body is one of the entries
 steps_within : (i : ℕ) (es : List Part) (k : ℕ) → steps_from i es ≡ Some k → k < i + length es
-steps_within i [] k e = let z : ◌≡◌ {A = ℕ} 0 1 = cc in absurd (omega arith)
+steps_within i [] k e = cc
 steps_within i (x ∷ es) k e = by (λ rest. steps_within (suc i) es k rest) (eqb x.kind 4) refl
   where
     by : (steps_from (suc i) es ≡ Some k → k < suc i + length es) → (b : Bool) → eqb x.kind 4 ≡ b → k < i + suc (length es)
@@ -35,7 +35,7 @@ steps_within i (x ∷ es) k e = by (λ rest. steps_within (suc i) es k rest) (eq
 
 -- the byte of a book's first fault
 no_book_byte : (o : Option ℕ) (f : FileFault) → ((k : ℕ) → o ≡ Some k → k ≤ 64) → Some f ≡ option_map no_book o → byte_of f ≤ 65535
-no_book_byte None f few e = let z : ◌≡◌ {A = ℕ} 0 1 = cc in absurd (omega arith)
+no_book_byte None f few e = cc
 no_book_byte (Some k) f few e = let same : byte_of f ≡ 2 + 4 * k = ap byte_of (let g : f ≡ no_book k = cc in g) in omega (arith, same, few k refl)
 
 book_byte_by : (book : List ℕ) (f : FileFault) (o : Option FileFault) → read_fault AllKinds book ≡ o → Some f ≡ book_fault_in o book → byte_of f ≤ 65535

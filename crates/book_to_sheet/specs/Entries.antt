@@ -2,31 +2,25 @@
 use Rattle.std.specs.Prelude.{◌≡◌, ℕ, List, Some, None, Option}
 use Rattle.std.specs.List.{slice_get}
 use Rattle.sheet.specs.Steps.{Steps}
-use Rattle.file.specs.declared.file.File.{File}
+use Rattle.book.specs.declared.read.Book.{Book}
+use Rattle.book.specs.Held.{book_bytes}
 use Rattle.plant_bodies.specs.BenchRule.{valves_fault}
 use Rattle.plant_bodies.specs.TrackRule.{track_fault}
 use Rattle.file.specs.declared.kind.Kind.TheVariants as kind
 use Rattle.file.specs.Kinds.{kind_of}
-use Rattle.file.specs.declared.kind.Reader.TheVariants.{AllKinds}
 use Rattle.file.specs.Parts.{Part}
-use Rattle.file.specs.Read.{parts, read_fault}
-use Rattle.file.specs.Files.{file_bytes, file_fault}
+use Rattle.file.specs.Read.{parts}
 use Rattle.book_sheet.specs.Jobs.{entry_steps}
 use Rattle.book_sheet.specs.Sheets.{job_count}
-
--- the file was read as one of all kinds, without a fault
-pub record Faultless (f : File) : Type 0 where
-  pub told : file_fault f ≡ None
-  pub read : read_fault AllKinds (file_bytes f) ≡ None
 
 -- the body of a bench or a track has no fault
 pub record BodyFaultless (e : Part) : Type 0 where
   pub bench : kind_of e.kind ≡ Some kind.Valves → valves_fault e.bytes ≡ None
   pub track : kind_of e.kind ≡ Some kind.Track → track_fault e.bytes ≡ None
 
--- the entries of a file
-abbrev pub parts_of : File → List Part
-parts_of f = parts (file_bytes f)
+-- the entries of a book
+abbrev pub parts_of : Book → List Part
+parts_of b = parts (book_bytes b)
 
 -- what an entry adds to the sheet, if it is there and is a job
 abbrev pub steps_at : List Part → Option Part → Option Steps

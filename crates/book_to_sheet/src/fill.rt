@@ -1,56 +1,60 @@
 // The answers to the jobs of a book, put on an open sheet one behind the other.
-ghost use Rattle.std.specs.Prelude.{◌≡◌, length};
-ghost use Rattle.file.specs.Files.{file_bytes};
+ghost use Rattle.std.specs.Prelude.{◌≡◌};
+ghost use Rattle.book.specs.Held.{book_bytes};
 ghost use Rattle.sheet.specs.States.{state};
-ghost use Rattle.book_to_sheet.specs.Entries.{Faultless, parts_of, numbered_steps};
-ghost use Rattle.book_to_sheet.specs.Filled.{EntryPut, Filled};
+ghost use Rattle.book_to_sheet.specs.Entries.{parts_of, numbered_steps};
+ghost use Rattle.book_to_sheet.specs.Told.{answer_steps};
+ghost use Rattle.book_to_sheet.specs.Filled.{BodyPut, EntryPut, Filled};
 
 use crate::entries::answer_entry;
-use file::file::File;
-use legs::relayed::Relayed;
+use crate::list::List;
+use crate::workspace::Workspace;
+use book::read::Book;
+use plant::refusal::Refusal;
+use sheet::refusal::SheetRefusal;
 use sheet::states::OpenSheet;
 
-// Puts the answer to the entry with this number on the sheet, if it is a job. False where there is no room for it.
-fn put_entry(
-    file: &File,
-    number: u8,
+// Puts the answer to a job on the sheet: answer 0 with the count and the list, or the refusal's number with nothing behind it.
+fn put_answer(
+    answer: Result<List, Refusal>,
     sheet: &mut OpenSheet,
     buffer: &mut [u8],
-    records: &mut [Relayed],
-    index: &mut [u32],
-) -> bool
-    requires faultless { Faultless file.now }
-    requires records { length records.old ≡ 8192 }
-    ensures { EntryPut (numbered_steps (parts_of file.now) number) (state sheet.old) (state sheet.new) buffer.old buffer.new result }
+) -> Result<(), SheetRefusal>
+    ensures { BodyPut (answer_steps answer) (state sheet.old) (state sheet.new) buffer.old buffer.new result }
 {
-    match answer_entry(file, number, records, index) {
-        Some(told) => {
-            let length = told.length as usize;
-            match sheet.put(buffer, told.answer, told.count, &told.list[0..length]) {
-                Ok(()) => true,
-                Err(_) => false,
-            }
-        }
-        None => true,
+    match answer {
+        Ok(list) => sheet.put(buffer, 0, list.count, &list.place[0..list.length as usize]),
+        Err(refusal) => sheet.put(buffer, refusal.code(), 0, &[]),
     }
 }
 
-// Puts the answers to all jobs on the sheet, in their order. False where there is no room for one.
-pub(crate) fn fill(
-    file: &File,
+// Puts the answer to the entry with this number on the sheet, if it is a job. Refused where there is no room for it.
+fn put_entry(
+    book: &Book,
+    number: u8,
     sheet: &mut OpenSheet,
     buffer: &mut [u8],
-    records: &mut [Relayed],
-    index: &mut [u32],
-) -> bool
-    requires faultless { Faultless file.now }
-    requires records { length records.old ≡ 8192 }
-    ensures { Filled (file_bytes file.now) (state sheet.old) (state sheet.new) buffer.old buffer.new result }
+    workspace: &mut Workspace,
+) -> Result<(), SheetRefusal>
+    ensures { EntryPut (numbered_steps (parts_of book.now) number) (state sheet.old) (state sheet.new) buffer.old buffer.new result }
 {
-    for number in 0..file.entries() {
-        if !put_entry(file, number, sheet, buffer, records, index) {
-            return false;
-        }
+    match answer_entry(book, number, workspace) {
+        Some(answer) => put_answer(answer, sheet, buffer),
+        None => Ok(()),
     }
-    true
+}
+
+// Puts the answers to all jobs on the sheet, in their order. Refused where there is no room for one.
+pub(crate) fn fill(
+    book: &Book,
+    sheet: &mut OpenSheet,
+    buffer: &mut [u8],
+    workspace: &mut Workspace,
+) -> Result<(), SheetRefusal>
+    ensures { Filled (book_bytes book.now) (state sheet.old) (state sheet.new) buffer.old buffer.new result }
+{
+    for number in 0..book.len() {
+        put_entry(book, number, sheet, buffer, workspace)?;
+    }
+    Ok(())
 }

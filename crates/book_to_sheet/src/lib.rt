@@ -6,3 +6,5 @@ pub mod call;
 mod entries;
 mod fill;
 mod jobs;
+mod list;
+mod workspace;

@@ -1,5 +1,5 @@
 -- What a file without a fault meets. Assumes nothing.
-use Rattle.std.proofs.Common.{◌≡◌, ℕ, zero, suc, ◌+◌, ◌-◌, ◌*◌, ◌≤◌, Bool, true, false, cond, not, eqb, ltb, List, length, get_or, drop, is_some, Some, None, Option, sym, refl, ap, ◌∙◌, arith, length-drop}
+use Rattle.std.proofs.Common.{◌≡◌, ℕ, zero, suc, ◌+◌, ◌*◌, ◌≤◌, Bool, true, false, cond, not, eqb, ltb, List, drop, is_some, Some, None, Option, refl, arith}
 use Rattle.std.specs.Option.{option_map}
 use Rattle.std.proofs.lemmas.Bool.{and_from, eqb-true, true≢false}
 use Rattle.std.proofs.lemmas.Bool.Decides.{nat_tests}
@@ -10,22 +10,26 @@ use Rattle.faults.specs.declared.fault.FileFault.{FileFault}
 use Rattle.faults.specs.declared.fault.FileFault.TheVariants.{TooShort, TooLong, Contents, Body}
 use Rattle.file.specs.declared.kind.Reader.{Reader}
 use Rattle.file.specs.Kinds.{kind_of, takes, takes_kind}
-use Rattle.file.specs.Contents.{row_kind, row_zero, rows_fault, rows_length, known_rows}
-use Rattle.file.proofs.CheckByCheck.{behind_head, behind_head_rows, told_by}
-use Rattle.file.specs.Read.{entries, rows, told_length, bodies_fault, contents_then, head_fault, length_fault, or_else, read_fault}
+use Rattle.file.specs.Contents.{row_kind, row_zero, rows_fault, known_rows}
+use Rattle.file.specs.Parts.{first_fault}
+use Rattle.file.specs.Read.{entries, rows, bodies_fault, contents_then, head_fault, length_fault, or_else, read_fault}
 
 -- no fault at all is none of either
 pub neither : (o g : Option FileFault) → or_else o g ≡ None → (o ≡ None) × (g ≡ None)
 neither None g h = (refl, h)
-neither (Some f) g h = absurd (let z : ◌≡◌ {A = ℕ} 0 1 = cc in omega arith)
+neither (Some f) g h = cc
 
 pub neither_contents : (o : Option ContentsFault) (g : Option FileFault) → contents_then o g ≡ None → (o ≡ None) × (g ≡ None)
 neither_contents None g h = (refl, h)
-neither_contents (Some f) g h = absurd (let z : ◌≡◌ {A = ℕ} 0 1 = cc in omega arith)
+neither_contents (Some f) g h = cc
 
-pub none_mapped : (o : Option BodyFault) → option_map Body o ≡ None → o ≡ None
-none_mapped None h = refl
-none_mapped (Some f) h = absurd (let z : ◌≡◌ {A = ℕ} 0 1 = cc in omega arith)
+pub neither_body : (o g : Option BodyFault) → first_fault o g ≡ None → (o ≡ None) × (g ≡ None)
+neither_body None g h = (refl, h)
+neither_body (Some f) g h = cc
+
+pub none_mapped : {A B : Type 0} (f : A → B) (o : Option A) → option_map f o ≡ None → o ≡ None
+none_mapped f None h = refl
+none_mapped f (Some x) h = cc
 
 pub none_from : {A : Type 0} (o : Option A) → is_some o ≡ false → o ≡ None
 none_from None h = refl
@@ -43,7 +47,7 @@ accepted r file h =
     let a = neither (head_fault file) _ h in
     let b = neither_contents (rows_fault r (entries file) 0 (rows file)) _ a.1 in
     let d = neither (length_fault file) _ b.1 in
-    record { head = a.0; contents = b.0; whole = d.0; bodies = none_mapped (bodies_fault file) d.1 }
+    record { head = a.0; contents = b.0; whole = d.0; bodies = none_mapped Body (bodies_fault file) d.1 }
 
 -- the numbers of the head
 pub head_numbers : (n e z : ℕ) →
@@ -70,9 +74,9 @@ row_parts r e i rs h = split (takes r (row_kind rs)) (eqb (row_zero rs) 0) refl 
       cond (not t) (Some (contents.Kind i)) (cond (not z) (Some (contents.RowZero i)) (rows_fault r e (suc i) (drop 4 rs))) ≡ None →
       (takes r (row_kind rs) ≡ true) × (row_zero rs ≡ 0) × (rows_fault r e (suc i) (drop 4 rs) ≡ None)
   split true true p q g = (p, eqb-true (row_zero rs) 0 q, g)
-  split true false p q g = absurd (let w : ◌≡◌ {A = ℕ} 0 1 = cc in omega arith)
-  split false true p q g = absurd (let w : ◌≡◌ {A = ℕ} 0 1 = cc in omega arith)
-  split false false p q g = absurd (let w : ◌≡◌ {A = ℕ} 0 1 = cc in omega arith)
+  split true false p q g = cc
+  split false true p q g = cc
+  split false false p q g = cc
 
 -- rows without a fault are of kinds that there are
 pub rows_known : (r : Reader) (e i : ℕ) (rs : List ℕ) → rows_fault r e i rs ≡ None → known_rows e rs ≡ true
@@ -81,21 +85,6 @@ rows_known r (suc e) i rs h =
     let p = row_parts r e i rs h in
     and_from (is_some (kind_of (row_kind rs))) (known_rows e (drop 4 rs)) (taken_known r (row_kind rs) p.0) (rows_known r e (suc i) (drop 4 rs) p.2)
 
--- a file whose fault was looked for and is none
-pub file_accepted : (r : Reader) (file : List ℕ) (o : Option FileFault) → is_some o ≡ is_some (read_fault r file) → o ≡ None → Accepted r file
-file_accepted r file o h e = accepted r file (none_from (read_fault r file) (sym h ∙ ap is_some e))
-
-pub accepted_few : (r : Reader) (file : List ℕ) → Accepted r file → length file ≤ 65535
-accepted_few r file a = (head_numbers (length file) (entries file) (get_or file 1 0) a.head).0
-
-pub accepted_there : (r : Reader) (file : List ℕ) → Accepted r file → 4 * entries file ≤ length (behind_head file)
-accepted_there r file a =
-    let h : 2 + 4 * entries file ≤ length file = (head_numbers (length file) (entries file) (get_or file 1 0) a.head).4 in
-    let l : length (behind_head file) ≡ length file - 2 = ap length (behind_head_rows file) ∙ length-drop 2 file in
-    omega arith
-
-pub accepted_whole : (r : Reader) (file : List ℕ) → Accepted r file → (2 + 4 * entries file) + rows_length (entries file) (behind_head file) ≡ length file
-accepted_whole r file a = told_by file (rows_length (entries file) (behind_head file)) refl ∙ length_numbers (length file) (told_length file) a.whole
-
-pub accepted_known : (r : Reader) (file : List ℕ) → Accepted r file → known_rows (entries file) (behind_head file) ≡ true
-accepted_known r file a = ap (known_rows (entries file)) (behind_head_rows file) ∙ rows_known r (entries file) 0 (rows file) a.contents
+-- the rows of a file without a fault are of kinds that there are
+pub faultless_known : (r : Reader) (file : List ℕ) → is_some (read_fault r file) ≡ false → known_rows (entries file) (rows file) ≡ true
+faultless_known r file h = rows_known r (entries file) 0 (rows file) (accepted r file (none_from (read_fault r file) h)).contents

@@ -1,6 +1,4 @@
-pub mod RowByRow
-pub mod PartByPart
-pub mod CheckByCheck
-pub mod Finding
+pub mod BodyByBody
 pub mod Acceptance
+pub mod Finding
 pub mod Examples

@@ -1,7 +1,8 @@
 -- The kinds of entries, and which of them a reader takes. Assumes nothing.
-use Rattle.std.specs.Prelude.{ℕ, Bool, true, false, cond, Some, None, Option, ◌==◌}
+use Rattle.std.specs.Prelude.{◌≡◌, ℕ, Bool, true, false, cond, Some, None, Option, Result, MatchResult, ◌==◌}
 use Rattle.file.specs.declared.kind.Kind.{Kind}
 use Rattle.file.specs.declared.kind.Kind.TheVariants.{Valves, Track, Job, Steps}
+use Rattle.file.specs.declared.kind.UnknownKind.{UnknownKind}
 use Rattle.file.specs.declared.kind.Reader.{Reader}
 use Rattle.file.specs.declared.kind.Reader.TheVariants.{AllKinds, StepsAlone}
 
@@ -27,3 +28,7 @@ is_plant (Some Valves) = true
 is_plant (Some Track) = true
 is_plant (Some Job) = false
 is_plant (Some Steps) = false
+
+-- a byte read as a kind: the kind that it is the number of, or the byte itself where there is none
+abbrev pub KindRead : ℕ → Result Kind UnknownKind → Type 0
+KindRead n r = MatchResult r (λ k. kind_of n ≡ Some k) (λ e. (kind_of n ≡ None) × (e.0 ≡ n))

@@ -1,5 +1,8 @@
 pub mod Kinds
 pub mod Contents
 pub mod Parts
+pub mod Taken
 pub mod Read
+pub mod Begun
+pub mod Held
 pub mod Files

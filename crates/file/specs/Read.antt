@@ -64,6 +64,10 @@ read_fault r file =
     (or_else (length_fault file)
     (option_map Body (bodies_fault file))))
 
+-- the checks before the bodies
+abbrev pub contents_fault : Reader → List ℕ → Option FileFault
+contents_fault r file = or_else (head_fault file) (contents_then (rows_fault r (entries file) 0 (rows file)) (length_fault file))
+
 -- what a reader makes of a file
 abbrev pub answer : Option FileFault → List Part → Result (List Part) FileFault
 answer None es = Ok es

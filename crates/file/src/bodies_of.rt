@@ -1,80 +1,92 @@
-// The bodies of the entries, one after another.
-ghost use Rattle.std.specs.Prelude.{◌≡◌, ◌+◌, ◌*◌, ◌≤◌, length, drop};
-ghost use Rattle.file.specs.Kinds.{kind_of};
-ghost use Rattle.file.specs.Contents.{rows_length};
+// The bodies of the entries, taken one after another.
+ghost use Rattle.std.specs.Prelude.{◌≡◌, drop};
+ghost use Rattle.std.specs.List.{slice_get};
+ghost use Rattle.std.specs.Result.{result_err};
 ghost use Rattle.file.specs.Parts.{plant_before, kind_fault, parts_from, parts_fault};
+ghost use Rattle.file.specs.Taken.{BodyTaken, BodyIs, parts_left};
 
-use crate::kind::{Kind, is_plant, kind_of};
+use crate::body::{Bodies, Body};
+use crate::kind::{Kind, is_plant};
+use crate::row::Rows;
 use bodies::job::job_fault;
 use bodies::steps::steps_fault;
 use faults::fault::BodyFault;
-use numbers::word;
 use plant_bodies::bench_body::valves_fault;
 use plant_bodies::track_body::track_fault;
 
+impl<'a> Bodies<'a> {
+    // The next body and those behind it; none where none is left.
+    pub(crate) fn split_first(self) -> Option<(Body<'a>, Bodies<'a>)>
+        ensures { BodyTaken self.entry result }
+    {
+        let (row, rows) = self.rows.split_first()?;
+        let end = self.place + row.length;
+        let body = Body {
+            number: row.number,
+            kind: row.kind,
+            place: self.place,
+            bytes: &self.file[self.place as usize..end as usize],
+        };
+        let rest = Bodies {
+            file: self.file,
+            rows,
+            place: end,
+        };
+        Some((body, rest))
+    }
+
+    // The body that is so many behind the first; none past the last.
+    pub(crate) fn nth(self, number: u8) -> Option<Body<'a>>
+        ensures { BodyIs (slice_get (parts_left self.entry) number) result }
+    {
+        let mut rest = self;
+        for _before in 0..number {
+            let (_, after) = rest.split_first()?;
+            rest = after;
+        }
+        let (body, _) = rest.split_first()?;
+        Some(body)
+    }
+}
+
 // Whether the entry that is named stands before this one and is a bench or a track.
-fn plant_before(rows: &[u8], number: u8, named: u8) -> bool
-    requires { 4 * number ≤ length rows.now }
-    ensures { result ≡ plant_before rows.now number named }
+fn plant_before(rows: Rows, number: u8, named: u8) -> bool
+    ensures { result ≡ plant_before rows.entry.bytes.now number named }
 {
     if named >= number {
         return false;
     }
-    is_plant(rows[4 * named as usize])
+    is_plant(rows.kind_at(named))
 }
 
-// The first fault of the body of one entry.
-fn body_fault(rows: &[u8], number: u8, kind: u8, place: u16, body: &[u8]) -> Option<BodyFault>
-    requires { 4 * number ≤ length rows.now }
-    ensures { result ≡ kind_fault rows.now number (kind_of kind) place body.now }
+// What is wrong first with the body of one entry, if anything.
+fn body_fault(rows: Rows, body: Body) -> Option<BodyFault>
+    ensures { result ≡ kind_fault rows.entry.bytes.now body.entry.number body.entry.kind body.entry.place body.entry.bytes.now }
 {
-    match kind_of(kind) {
-        Some(Kind::Valves) => match valves_fault(body) {
-            Some(fault) => Some(BodyFault::Valves { place, fault }),
-            None => None,
-        },
-        Some(Kind::Track) => match track_fault(body) {
-            Some(fault) => Some(BodyFault::Track { place, fault }),
-            None => None,
-        },
-        Some(Kind::Job) => {
-            let named = match body {
-                [first, ..] => *first,
-                [] => 0,
-            };
-            match job_fault(body, plant_before(rows, number, named)) {
-                Some(fault) => Some(BodyFault::Job { place, fault }),
-                None => None,
-            }
+    let place = body.place;
+    match body.kind? {
+        Kind::Valves => { valves_fault(body.bytes).map(|fault| BodyFault::Valves { place, fault }) }
+        Kind::Track => track_fault(body.bytes).map(|fault| BodyFault::Track { place, fault }),
+        Kind::Job => {
+            let named = body.bytes.first().copied().unwrap_or(0);
+            job_fault(body.bytes, plant_before(rows, body.number, named)).map(
+                |fault| BodyFault::Job { place, fault },
+            )
         }
-        Some(Kind::Steps) => match steps_fault(body) {
-            Some(fault) => Some(BodyFault::Steps { place, fault }),
-            None => None,
-        },
-        None => None,
+        Kind::Steps => steps_fault(body.bytes).map(|fault| BodyFault::Steps { place, fault }),
     }
 }
 
-// The first fault of the bodies of so many entries.
-pub(crate) fn bodies_fault(file: &[u8], rows: &[u8], entries: u8) -> Option<BodyFault>
-    requires few { length file.now ≤ 65535 }
-    requires there { 4 * entries ≤ length rows.now }
-    requires whole { (2 + 4 * entries) + rows_length entries rows.now ≡ length file.now }
-    ensures { result ≡ parts_fault rows.now 0 (parts_from entries rows.now (2 + 4 * entries) (drop (2 + 4 * entries) file.now)) }
+// Checks the bodies, one after another.
+pub(crate) fn check_bodies(bodies: Bodies) -> Result<(), BodyFault>
+    ensures { result_err result ≡ parts_fault bodies.entry.rows.bytes.now bodies.entry.rows.number (parts_left bodies.entry) }
 {
-    let mut rest = rows;
-    let mut place = 2 + 4 * entries as usize;
-    for number in 0..entries {
-        let [kind, _, low, high, after @ ..] = rest else {
-            return unreachable();
-        };
-        let end = place + word(*low, *high) as usize;
-        match body_fault(rows, number, *kind, place as u16, &file[place..end]) {
-            Some(fault) => return Some(fault),
-            None => {}
+    let mut rest = bodies;
+    while let Some((body, after)) = rest.split_first() {
+        if let Some(fault) = body_fault(bodies.rows, body) {
+            return Err(fault);
         }
-        place = end;
         rest = after;
     }
-    None
+    Ok(())
 }

@@ -1,7 +1,8 @@
-// A file with what was found wrong with it first, if anything.
-ghost use Rattle.std.specs.Prelude.{◌≡◌, is_some};
-ghost use Rattle.file.specs.Read.{read_fault};
+// A file with its entries, or what was found wrong with it first.
+ghost use Rattle.std.specs.Prelude.{◌≡◌};
+ghost use Rattle.file.specs.Held.{held_bytes};
 
+use crate::entries::Entries;
 use crate::kind::Reader;
 use faults::fault::FileFault;
 
@@ -9,6 +10,6 @@ use faults::fault::FileFault;
 pub struct File<'a> {
     pub(crate) reader: Reader,
     pub(crate) bytes: &'a [u8],
-    pub(crate) fault: Option<FileFault>,
-    ghost checked: { is_some fault ≡ is_some (read_fault reader bytes.now) },
+    pub(crate) entries: Result<Entries<'a>, FileFault>,
+    ghost own: { held_bytes bytes.now entries ≡ bytes.now },
 }

@@ -2,10 +2,12 @@
 #![tactic(auto)]
 
 mod bodies_of;
+mod body;
+pub mod entries;
 pub mod entry;
 pub mod file;
-mod find;
 pub mod kind;
-pub mod open;
+mod open;
 pub mod read;
+mod row;
 mod rows;

@@ -1,7 +1,7 @@
 // One line of the script: the name of a case and a colon, then `book` or `sheet` and the bytes of a file. A line that
 // begins with # is printed as it is.
 use crate::bytes::bytes_of;
-use anyhow::anyhow;
+use anyhow::{Context, anyhow};
 use book::first_book_fault;
 use fault_line::line::Line;
 use faults::fault::FileFault;
@@ -13,13 +13,8 @@ pub(crate) fn run_line(rt: &HostRuntime, line: &str) -> anyhow::Result<()> {
         rt.println(line)?;
         return Ok(());
     }
-    match line.split_once(": ") {
-        Some((name, rest)) => {
-            let fault = fault_of(rt, rest)?;
-            tell(rt, name, fault)
-        }
-        None => Err(anyhow!("a line has a name and a file")),
-    }
+    let (name, rest) = line.split_once(": ").context("a line has a name and a file")?;
+    tell(rt, name, fault_of(rt, rest)?)
 }
 
 // The first fault of the file, read as a book or as a sheet.

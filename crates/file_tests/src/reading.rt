@@ -9,98 +9,65 @@ use std::test::Fail;
 
 // The file has this fault: layer, number, byte.
 fn faulty(rt: &impl Abort, bytes: &[u8], layer: u8, number: u8, byte: u32) -> Result<(), Fail> {
-    match first_book_fault(bytes) {
-        Some(fault) => {
-            assert_eq!(rt; fault.layer().code(), layer);
-            assert_eq!(rt; fault.number(), number);
-            assert_eq!(rt; fault.byte(), byte);
-            Ok(())
-        }
-        None => Err(Fail::new("no fault")),
-    }
+    let Some(fault) = first_book_fault(bytes) else {
+        return Err(Fail::new("no fault"));
+    };
+    assert_eq!(rt; fault.layer().code(), layer);
+    assert_eq!(rt; fault.number(), number);
+    assert_eq!(rt; fault.byte(), byte);
+    Ok(())
 }
+
+// A file, and what is told of it: layer, number, byte.
+type Case = (&'static [u8], u8, u8, u32);
+
+const HEADS_AND_ROWS: [Case; 9] = [
+    (b"", 1, 10, 0),
+    (b"\x07", 1, 10, 1),
+    (b"\x41\x01", 2, 11, 0),
+    (b"\x00\x01", 2, 11, 1),
+    (b"\x01\x00", 1, 10, 2),
+    (b"\x01\x00\x05\x01\x00\x00", 2, 11, 2),
+    (b"\x01\x00\x04\x01\x00\x00", 2, 11, 3),
+    (b"\x01\x00\x03\x00\x0c\x00", 1, 10, 6),
+    (b"\x00\x00\x09\x09", 1, 10, 2),
+];
+
+const BODIES: [Case; 12] = [
+    // a bench without its counts, of no valve, of too many positions
+    (b"\x01\x00\x01\x00\x00\x00", 3, 12, 6),
+    (b"\x01\x00\x01\x00\x02\x00\x00\x00", 3, 12, 6),
+    (b"\x01\x00\x01\x00\x04\x00\x02\x00\x02\x05", 3, 12, 9),
+    // an interlock of a valve with itself, and of a position that there is not
+    (b"\x01\x00\x01\x00\x08\x00\x02\x01\x03\x02\x00\x02\x00\x00", 3, 12, 12),
+    (b"\x01\x00\x01\x00\x08\x00\x02\x01\x03\x02\x00\x02\x01\x02", 3, 12, 13),
+    // a track of no station, and a link from a station to itself
+    (b"\x01\x00\x02\x00\x04\x00\x00\x00\x00\x00", 3, 12, 6),
+    (b"\x01\x00\x02\x00\x08\x00\x02\x00\x01\x00\x01\x00\x01\x00", 3, 12, 12),
+    // a job on itself
+    (b"\x01\x00\x03\x00\x0c\x00\x00\x00\x04\x00\x00\x00\x00\x00\x02\x00\x00\x00", 3, 12, 6),
+    // a steps body of an odd length, of an answer that is none, of a count under a refusal
+    (b"\x01\x00\x04\x00\x0b\x00\x00\x00\x00\x00\x00\x00\x00\x00\x00\x00\x00", 3, 12, 6),
+    (b"\x01\x00\x04\x00\x0a\x00\x03\x00\x00\x00\x00\x00\x00\x00\x00\x00", 3, 12, 6),
+    (b"\x01\x00\x04\x00\x0a\x00\x07\x00\x01\x00\x00\x00\x00\x00\x00\x00", 3, 12, 8),
+    // and one that is right, in a book
+    (b"\x01\x00\x04\x00\x0a\x00\x07\x00\x00\x00\x00\x00\x00\x00\x00\x00", 2, 14, 2),
+];
 
 #[test]
 fn heads_and_rows(rt: HostRuntime) -> Result<(), Fail> {
-    faulty(&rt, b"", 1, 10, 0)?;
-    faulty(&rt, b"\x07", 1, 10, 1)?;
-    faulty(&rt, b"\x41\x01", 2, 11, 0)?;
-    faulty(&rt, b"\x00\x01", 2, 11, 1)?;
-    faulty(&rt, b"\x01\x00", 1, 10, 2)?;
-    faulty(&rt, b"\x01\x00\x05\x01\x00\x00", 2, 11, 2)?;
-    faulty(&rt, b"\x01\x00\x04\x01\x00\x00", 2, 11, 3)?;
-    faulty(&rt, b"\x01\x00\x03\x00\x0c\x00", 1, 10, 6)?;
-    faulty(&rt, b"\x00\x00\x09\x09", 1, 10, 2)
+    for (bytes, layer, number, byte) in HEADS_AND_ROWS {
+        faulty(&rt, bytes, layer, number, byte)?;
+    }
+    Ok(())
 }
 
 #[test]
 fn bodies(rt: HostRuntime) -> Result<(), Fail> {
-    // a bench without its counts, of no valve, of too many positions
-    faulty(&rt, b"\x01\x00\x01\x00\x00\x00", 3, 12, 6)?;
-    faulty(&rt, b"\x01\x00\x01\x00\x02\x00\x00\x00", 3, 12, 6)?;
-    faulty(&rt, b"\x01\x00\x01\x00\x04\x00\x02\x00\x02\x05", 3, 12, 9)?;
-    // an interlock of a valve with itself, and of a position that there is not
-    faulty(
-        &rt,
-        b"\x01\x00\x01\x00\x08\x00\x02\x01\x03\x02\x00\x02\x00\x00",
-        3,
-        12,
-        12,
-    )?;
-    faulty(
-        &rt,
-        b"\x01\x00\x01\x00\x08\x00\x02\x01\x03\x02\x00\x02\x01\x02",
-        3,
-        12,
-        13,
-    )?;
-    // a track of no station, and a link from a station to itself
-    faulty(&rt, b"\x01\x00\x02\x00\x04\x00\x00\x00\x00\x00", 3, 12, 6)?;
-    faulty(
-        &rt,
-        b"\x01\x00\x02\x00\x08\x00\x02\x00\x01\x00\x01\x00\x01\x00",
-        3,
-        12,
-        12,
-    )?;
-    // a job on itself
-    faulty(
-        &rt,
-        b"\x01\x00\x03\x00\x0c\x00\x00\x00\x04\x00\x00\x00\x00\x00\x02\x00\x00\x00",
-        3,
-        12,
-        6,
-    )?;
-    // a steps body of an odd length, of an answer that is none, of a count under a refusal
-    faulty(
-        &rt,
-        b"\x01\x00\x04\x00\x0b\x00\x00\x00\x00\x00\x00\x00\x00\x00\x00\x00\x00",
-        3,
-        12,
-        6,
-    )?;
-    faulty(
-        &rt,
-        b"\x01\x00\x04\x00\x0a\x00\x03\x00\x00\x00\x00\x00\x00\x00\x00\x00",
-        3,
-        12,
-        6,
-    )?;
-    faulty(
-        &rt,
-        b"\x01\x00\x04\x00\x0a\x00\x07\x00\x01\x00\x00\x00\x00\x00\x00\x00",
-        3,
-        12,
-        8,
-    )?;
-    // and one that is right, in a book
-    faulty(
-        &rt,
-        b"\x01\x00\x04\x00\x0a\x00\x07\x00\x00\x00\x00\x00\x00\x00\x00\x00",
-        2,
-        14,
-        2,
-    )
+    for (bytes, layer, number, byte) in BODIES {
+        faulty(&rt, bytes, layer, number, byte)?;
+    }
+    Ok(())
 }
 
 #[test]

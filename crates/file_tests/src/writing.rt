@@ -10,10 +10,10 @@ fn sheet_of_one_body(rt: HostRuntime) -> Result<(), Fail> {
     let mut buffer = [255u8; 26];
     let mut open = EmptySheet::new().open(&mut buffer, 1)?;
     open.put(&mut buffer, 0, 16, &[0, 2, 0, 3])?;
-    match open.close() {
-        Ok(closed) => assert_eq!(rt; closed.len(), 24),
-        Err(_) => return Err(Fail::new("not closed")),
-    }
+    let Ok(closed) = open.close() else {
+        return Err(Fail::new("not closed"));
+    };
+    assert_eq!(rt; closed.len(), 24);
     let written: &[u8] =
         b"\x01\x00\x04\x00\x12\x00\x00\x00\x10\x00\x00\x00\x00\x00\x00\x00\x00\x00\x02\x00\x00\x00\x03\x00\xff\xff";
     assert!(rt; &buffer[0..26] == written);
@@ -31,13 +31,8 @@ fn refused(
     why: SheetRefusal,
 ) -> Result<(), Fail> {
     let mut open = EmptySheet::new().open(buffer, 1)?;
-    match open.put(buffer, answer, count, operations) {
-        Ok(_) => Err(Fail::new("not refused")),
-        Err(refusal) => {
-            assert_eq!(rt; refusal, why);
-            Ok(())
-        },
-    }
+    assert_eq!(rt; open.put(buffer, answer, count, operations), Err(why));
+    Ok(())
 }
 
 #[test]
@@ -55,16 +50,11 @@ fn refusals(rt: HostRuntime) -> Result<(), Fail> {
 fn over_and_under(rt: HostRuntime) -> Result<(), Fail> {
     let mut buffer = [0u8; 8];
     let mut open = EmptySheet::new().open(&mut buffer, 0)?;
-    match open.put(&mut buffer, 0, 0, &[]) {
-        Ok(_) => return Err(Fail::new("not refused")),
-        Err(refusal) => assert_eq!(rt; refusal, SheetRefusal::OverCount),
-    }
+    assert_eq!(rt; open.put(&mut buffer, 0, 0, &[]), Err(SheetRefusal::OverCount));
     let other = EmptySheet::new().open(&mut buffer, 1)?;
-    match other.close() {
-        Ok(_) => Err(Fail::new("closed")),
-        Err(refused) => {
-            assert_eq!(rt; refused.refusal, SheetRefusal::UnderCount);
-            Ok(())
-        },
-    }
+    let Err(refused) = other.close() else {
+        return Err(Fail::new("closed"));
+    };
+    assert_eq!(rt; refused.refusal, SheetRefusal::UnderCount);
+    Ok(())
 }

@@ -2,12 +2,9 @@
 // status 0 for a sheet, and with status 1 for a fault.
 #![tactic(auto)]
 
-ghost use Rattle.std.specs.Prelude.{◌≤◌, length, IfOk};
-
 use anyhow::anyhow;
 use book_to_sheet::call::book_to_sheet;
 use fault_line::line::Line;
-use std::io;
 use std::io::{Read, Write};
 
 // The room for a book and for a sheet: one byte more than the longest book has, so that a longer input is seen to be too
@@ -15,41 +12,22 @@ use std::io::{Read, Write};
 const ROOM: usize = 65536;
 
 fn main(rt: HostRuntime) -> anyhow::Result<()> {
-    if run(&rt)? {
-        return Ok(());
-    }
-    Err(anyhow!("the book has a fault"))
+    run(&rt)
 }
 
-// Whether a sheet was written, and not a fault.
-fn run(rt: &HostRuntime) -> anyhow::Result<bool> {
-    let mut book = vec![in rt.alloc(); 0u8; ROOM]?;
+fn run(rt: &HostRuntime) -> anyhow::Result<()> {
+    let mut book = Vec::new(rt.alloc());
+    rt.stdin().take(ROOM as u64).read_to_end(&mut book)?;
     let mut sheet = vec![in rt.alloc(); 0u8; ROOM]?;
-    let length = read_all(&mut rt.stdin(), &mut book)?;
     let mut out = rt.stdout();
-    match book_to_sheet(&book[0..length], &mut sheet) {
+    match book_to_sheet(&book, &mut sheet) {
         Ok(written) => {
             out.write_all(&sheet[0..written])?;
-            Ok(true)
+            Ok(())
         }
         Err(fault) => {
             out.write_all(Line::of(fault).as_bytes())?;
-            Ok(false)
+            Err(anyhow!("the book has a fault"))
         }
     }
-}
-
-// Reads until the input ends or the place is full, and answers how many bytes came.
-fn read_all<I: Read>(input: &mut I, place: &mut [u8]) -> io::Result<usize>
-    ensures { IfOk result (λ n. n ≤ length place.old) }
-{
-    let mut end = 0usize;
-    while end < place.len() {
-        let count = input.read(&mut place[end..])?;
-        if count == 0 {
-            return Ok(end);
-        }
-        end += count;
-    }
-    Ok(end)
 }

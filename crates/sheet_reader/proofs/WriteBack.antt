@@ -1,8 +1,7 @@
 -- A sheet without a fault is the one that its bodies write. Assumes nothing.
-use Rattle.std.proofs.Common.{◌≡◌, ℕ, zero, suc, ◌+◌, ◌*◌, ◌<◌, ◌≤◌, Bool, true, false, cond, eqb, List, [], ◌∷◌, ◌++◌, map, length, take, drop, Some, None, Option, sym, refl, ap, ◌∙◌, arith, length-drop, take-append-drop}
+use Rattle.std.proofs.Common.{◌≡◌, ℕ, zero, suc, ◌+◌, ◌*◌, ◌<◌, ◌≤◌, Bool, true, false, cond, eqb, List, [], ◌∷◌, ◌++◌, map, length, take, drop, Some, None, sym, refl, ap, ◌∙◌, arith, length-drop, take-append-drop}
 use Rattle.std.specs.List.{flat_map}
-use Rattle.std.specs.Option.{option_map}
-use Rattle.std.proofs.lemmas.List.{length-take-le}
+use Rattle.std.proofs.lemmas.List.{length-map, length-take-le}
 use Rattle.std.proofs.lemmas.Bool.{eqb-true, false≢true}
 use Rattle.numbers.specs.Low.{low, value, Bytes}
 use Rattle.numbers.proofs.Laws.{low_value, bytes_take, bytes_drop}
@@ -12,16 +11,15 @@ use Rattle.sheet.proofs.Lengths.{length_body}
 use Rattle.bodies.specs.StepsRule.{steps_fault}
 use Rattle.bodies.specs.StepsRead.{steps_of}
 use Rattle.bodies.proofs.StepsLaws.{accepted_written}
-use Rattle.bodies.specs.declared.steps.StepsFault.{StepsFault}
-use Rattle.faults.specs.declared.fault.BodyFault.{BodyFault}
 use Rattle.faults.specs.declared.fault.BodyFault.TheVariants as body
 use Rattle.file.specs.declared.kind.Kind.TheVariants as kind
 use Rattle.file.specs.declared.kind.Reader.TheVariants.{StepsAlone}
 use Rattle.file.specs.Kinds.{kind_of, takes, takes_kind}
-use Rattle.file.specs.Contents.{row_length, rows_fault, rows_length}
-use Rattle.file.specs.Parts.{parts_from, parts_fault, kind_fault, first_fault}
-use Rattle.file.specs.Read.{read_fault}
-use Rattle.file.proofs.Acceptance.{Accepted, accepted, head_numbers, length_numbers, row_parts}
+use Rattle.file.specs.Contents.{rows_fault, rows_length}
+use Rattle.file.specs.Parts.{parts_from, parts_fault, kind_fault}
+use Rattle.file.specs.Read.{parts, read_fault}
+use Rattle.file.proofs.BodyByBody.{length_parts}
+use Rattle.file.proofs.Acceptance.{Accepted, accepted, head_numbers, length_numbers, neither_body, none_mapped, row_parts}
 use Rattle.sheet_reader.specs.Laws.{said, bodies_in, WritesBack}
 use Rattle.sheet_reader.proofs.ReadBack.{complete, complete_is}
 
@@ -35,15 +33,6 @@ taken_steps k h = four (eqb k 1) (eqb k 2) (eqb k 3) (eqb k 4) refl h where
   four false false true d e h = absurd (false≢true h)
   four false false false true e h = eqb-true k 4 e
   four false false false false e h = absurd (false≢true h)
-
--- no fault among several is none of each
-pub first_none : (o g : Option BodyFault) → first_fault o g ≡ None → (o ≡ None) × (g ≡ None)
-first_none None g h = (refl, h)
-first_none (Some f) g h = absurd (let z : ◌≡◌ {A = ℕ} 0 1 = cc in omega arith)
-
-pub steps_none : (o : Option StepsFault) (p : ℕ) → option_map (body.Steps p) o ≡ None → o ≡ None
-steps_none None p h = refl
-steps_none (Some f) p h = absurd (let z : ◌≡◌ {A = ℕ} 0 1 = cc in omega arith)
 
 -- a body without a fault has the length that its row tells
 pub body_row : (bs : List ℕ) (lo hi : ℕ) → Bytes bs → lo < 256 → hi < 256 → steps_fault bs ≡ None → length bs ≡ value (lo ∷ (hi ∷ [])) →
@@ -69,8 +58,8 @@ rows_and_bodies (suc e) (k ∷ (z ∷ (lo ∷ (hi ∷ rs)))) bs all i p br bb l 
     let n : ℕ = value (lo ∷ (hi ∷ [])) in
     let q = row_parts StepsAlone e i (k ∷ (z ∷ (lo ∷ (hi ∷ rs)))) f in
     let four : k ≡ 4 = taken_steps k q.0 in
-    let u = first_none (kind_fault all i (kind_of k) p (take n bs)) (parts_fault all (suc i) (parts_from e rs (p + n) (drop n bs))) g in
-    let s : steps_fault (take n bs) ≡ None = steps_none (steps_fault (take n bs)) p (sym (ap (λ j. kind_fault all i (kind_of j) p (take n bs)) four) ∙ u.0) in
+    let u = neither_body (kind_fault all i (kind_of k) p (take n bs)) (parts_fault all (suc i) (parts_from e rs (p + n) (drop n bs))) g in
+    let s : steps_fault (take n bs) ≡ None = none_mapped (body.Steps p) (steps_fault (take n bs)) (sym (ap (λ j. kind_fault all i (kind_of j) p (take n bs)) four) ∙ u.0) in
     let m : length (take n bs) ≡ n = length-take-le n bs (omega arith) in
     let d : rows_length e rs ≡ length (drop n bs) = rw length-drop (omega arith) in
     let r = rows_and_bodies e rs (drop n bs) all (suc i) (p + n) br.1.1.1.1 (bytes_drop n bs bb) (omega arith) d q.2 u.1 in
@@ -89,10 +78,6 @@ rows_and_bodies (suc e) (k ∷ (z ∷ (lo ∷ (hi ∷ rs)))) bs all i p br bb l 
           ∙ ap (λ t. t ++ flat_map body_bytes (map said (parts_from e rs (p + n) (drop n bs)))) (sym (accepted_written (take n bs) (bytes_take n bs bb) s)));
     }
 
-pub length_parts : (e : ℕ) (rs : List ℕ) (p : ℕ) (bs : List ℕ) → length (map said (parts_from e rs p bs)) ≡ e
-length_parts zero rs p bs = refl
-length_parts (suc e) rs p bs = ap (λ n. suc n) (length_parts e (drop 4 rs) (p + row_length rs) (drop (row_length rs) bs))
-
 -- the law
 pub written_back : (file : List ℕ) → Bytes file → Accepted StepsAlone file → file ≡ complete (bodies_in file)
 written_back [] b a = absurd (omega (arith, (head_numbers 0 0 0 a.head).1))
@@ -107,7 +92,7 @@ written_back (e ∷ (z ∷ rs)) b a =
     let d : drop (2 + 4 * e) file ≡ drop (4 * e) rs = ap (λ k. drop k file) n in
     let t : rows_length e rs ≡ length (drop (2 + 4 * e) file) = rw length-drop (omega arith) in
     let r = rows_and_bodies e rs (drop (2 + 4 * e) file) rs 0 (2 + 4 * e) b.1.1 (bytes_drop (2 + 4 * e) file b) (omega arith) t a.contents a.bodies in
-    let k : length (bodies_in file) ≡ e = length_parts e rs (2 + 4 * e) (drop (2 + 4 * e) file) in
+    let k : length (bodies_in file) ≡ e = length-map (parts file) said ∙ length_parts e rs (2 + 4 * e) (drop (2 + 4 * e) file) in
     ap (λ t. e ∷ (z ∷ t)) (sym (take-append-drop (4 * e) rs))
     ∙ (ap (λ t. e ∷ (z ∷ (t ++ drop (4 * e) rs))) r.rows
     ∙ (ap (λ t. e ∷ (z ∷ (flat_map row_bytes (bodies_in file) ++ t))) (sym d ∙ r.bodies)
