@@ -6,7 +6,8 @@ ghost use Rattle.book_to_sheet.specs.Told.{Told};
 use crate::list::List;
 use crate::workspace::Workspace;
 use bodies::job::Job;
-use plan::planning::plan_with_index;
+use legs::leg::Leg;
+use plan::planning::plan;
 use plant::plant::Plant;
 use plant::refusal::Refusal;
 
@@ -19,11 +20,14 @@ pub(crate) fn answer_on<P: Plant>(
     ensures { Told (steps_on job (P.meaning plant.now)) result }
 {
     let mut list = [0u16; 255];
-    let planned = plan_with_index(
+    let leg = Leg {
+        start: job.start,
+        target: job.target,
+        bound: job.bound,
+    };
+    let planned = plan(
         plant,
-        job.start,
-        job.target,
-        job.bound,
+        leg,
         &mut workspace.records,
         &mut workspace.index,
         &mut list,
