@@ -13,13 +13,9 @@ use Rattle.valves.specs.Tables.{whole, Shares}
 use Rattle.valves.specs.Held.{shares_in}
 use Rattle.valves.specs.declared.bench.valve.Valve.{Valve}
 use Rattle.valves.specs.declared.bench.row.Row.{Row}
-use Rattle.valves.specs.Faultless.{data_from_none}
+use Rattle.valves.specs.Faultless.{none_from_test, data_from_none}
 use Rattle.valves.specs.Numbering.{position_digit, weight_more}
 use Rattle.valves.specs.BenchLawful.{bench_lawful}
-
-none_from_test : (f : Option BenchFault) → is_some f ≡ false → f ≡ None
-none_from_test None e = refl
-none_from_test (Some f) e = let clash : ◌≡◌ {A = ℕ} 0 1 = cc in absurd (omega arith)
 
 pub data_of : (b : Bench) → BenchData (counts_of b) (interlocks_of b)
 data_of b = data_from_none (counts_of b) (interlocks_of b) (none_from_test _ b.faultless)
