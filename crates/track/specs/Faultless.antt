@@ -1,21 +1,11 @@
 -- Data have no fault exactly where they make a track. Assumes nothing.
-use Rattle.std.specs.Prelude.{◌≡◌, ℕ, zero, suc, ◌+◌, ◌<◌, false, List, [], ◌∷◌, length, is_some, Some, None, Option, slice_index_or, refl}
+use Rattle.std.specs.Prelude.{◌≡◌, ℕ, zero, suc, ◌+◌, ◌<◌, List, [], ◌∷◌, length, None, slice_index_or, refl}
 use Rattle.std.proofs.Common.{ap, ◌∙◌, arith}
-use Rattle.std.proofs.lemmas.Bool.{true≢false}
 use Rattle.std.proofs.lemmas.Bool.Decides.{nat_tests}
+use Rattle.plant.specs.Options.{neither}
 use Rattle.track.specs.declared.link.Link.{Link}
-use Rattle.track.specs.declared.link.TrackFault.{TrackFault}
 use Rattle.track.specs.Fault.{row_fault, before, rows_fault, fault}
 use Rattle.track.specs.Data.{Joins, TrackData}
-
-pub none_from_test : (f : Option TrackFault) → is_some f ≡ false → f ≡ None
-none_from_test None e = refl
-none_from_test (Some f) e = absurd (true≢false e)
-
--- where there is no first of two faults, neither is there
-neither : (f g : Option TrackFault) → before f g ≡ None → (f ≡ None) × (g ≡ None)
-neither None g e = (refl, e)
-neither (Some f) g e = cc
 
 joins_from_none : (stations row : ℕ) (l : Link) → row_fault stations row l ≡ None → Joins stations l
 joins_from_none stations row l e =

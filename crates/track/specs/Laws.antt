@@ -7,10 +7,11 @@ use Rattle.std.proofs.lemmas.Option.{slice_get_past, get_or_from_slice_get, none
 use Rattle.std.proofs.lemmas.Bool.Decides.{nat_tests}
 use Rattle.plant.specs.Meaning.{Leads}
 use Rattle.plant.specs.Laws.{Lawful}
+use Rattle.plant.specs.Options.{none_from_test}
 use Rattle.track.specs.declared.link.Link.{Link}
 use Rattle.track.specs.Fault.{fault}
 use Rattle.track.specs.Data.{Joins, TrackData}
-use Rattle.track.specs.Faultless.{none_from_test, data_from_none}
+use Rattle.track.specs.Faultless.{data_from_none}
 use Rattle.track.specs.Track.{track, along, apart}
 
 -- a link that an operation goes along joins two stations

@@ -1,21 +1,11 @@
 -- Data have no fault exactly where they make a bench. Assumes nothing.
-use Rattle.std.specs.Prelude.{◌≡◌, ℕ, zero, suc, ◌+◌, ◌<◌, ◌≤◌, false, List, [], ◌∷◌, length, is_some, Some, None, Option, slice_index, slice_index_or, refl}
+use Rattle.std.specs.Prelude.{◌≡◌, ℕ, zero, suc, ◌<◌, ◌≤◌, List, [], ◌∷◌, length, None, slice_index, slice_index_or, refl}
 use Rattle.std.proofs.Common.{ap, ◌∙◌, arith}
-use Rattle.std.proofs.lemmas.Bool.{true≢false}
 use Rattle.std.proofs.lemmas.Bool.Decides.{nat_tests}
+use Rattle.plant.specs.Options.{neither}
 use Rattle.valves.specs.declared.interlock.Interlock.{Interlock}
-use Rattle.valves.specs.declared.fault.BenchFault.{BenchFault}
 use Rattle.valves.specs.Faults.{either_fault, positions_fault, interlock_fault, interlocks_fault, bench_fault}
 use Rattle.valves.specs.Data.{Ranged, BenchData}
-
-pub none_from_test : (f : Option BenchFault) → is_some f ≡ false → f ≡ None
-none_from_test None e = refl
-none_from_test (Some f) e = absurd (true≢false e)
-
--- where there is no first of two faults, neither is there
-neither : (f g : Option BenchFault) → either_fault f g ≡ None → (f ≡ None) × (g ≡ None)
-neither None g e = (refl, e)
-neither (Some f) g e = cc
 
 count_none : (n v : ℕ) (ns : List ℕ) → positions_fault (n ∷ ns) v ≡ None → (2 ≤ n) × (n ≤ 4) × (positions_fault ns (suc v) ≡ None)
 count_none n v ns e = (grind (arith, nat_tests), grind (arith, nat_tests), grind (arith, nat_tests))
@@ -77,5 +67,5 @@ none_of_interlocks ns (l ∷ ls) r each =
 pub none_from_data : (ns : List ℕ) (ls : List Interlock) → BenchData ns ls → bench_fault ns ls ≡ None
 none_from_data ns ls k =
     let both : either_fault (positions_fault ns 0) (interlocks_fault ns ls 0) ≡ None =
-        ap (λ x. either_fault x (interlocks_fault ns ls 0)) (none_of_positions ns 0 k.two k.four) ∙ none_of_interlocks ns ls 0 k.ranged in
+    ap (λ x. either_fault x (interlocks_fault ns ls 0)) (none_of_positions ns 0 k.two k.four) ∙ none_of_interlocks ns ls 0 k.ranged in
     grind (arith, nat_tests)

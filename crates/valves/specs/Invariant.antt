@@ -1,10 +1,10 @@
 -- What every bench that there is keeps: its data are good, and its places hold them. Assumes nothing.
-use Rattle.std.specs.Prelude.{◌≡◌, ℕ, suc, ◌+◌, ◌*◌, ◌/◌, ◌%◌, ◌<◌, false, length, is_some, Some, None, Option, slice_index, slice_index_or, refl}
+use Rattle.std.specs.Prelude.{◌≡◌, ℕ, suc, ◌+◌, ◌*◌, ◌/◌, ◌%◌, ◌<◌, length, slice_index, slice_index_or, refl}
 use Rattle.std.proofs.Common.{sym, ap, ◌∙◌, arith}
 use Rattle.std.proofs.lemmas.List.{length-map, get_or-map}
 use Rattle.plant.specs.Laws.{Lawful}
+use Rattle.plant.specs.Options.{none_from_test}
 use Rattle.valves.specs.declared.interlock.Interlock.{Interlock}
-use Rattle.valves.specs.declared.fault.BenchFault.{BenchFault}
 use Rattle.valves.specs.declared.bench.Bench.{Bench}
 use Rattle.valves.specs.Of.{counts_of, interlocks_of, bench_of}
 use Rattle.valves.specs.Data.{BenchData}
@@ -13,7 +13,7 @@ use Rattle.valves.specs.Tables.{whole, Shares}
 use Rattle.valves.specs.Held.{shares_in}
 use Rattle.valves.specs.declared.bench.valve.Valve.{Valve}
 use Rattle.valves.specs.declared.bench.row.Row.{Row}
-use Rattle.valves.specs.Faultless.{none_from_test, data_from_none}
+use Rattle.valves.specs.Faultless.{data_from_none}
 use Rattle.valves.specs.Numbering.{position_digit, weight_more}
 use Rattle.valves.specs.BenchLawful.{bench_lawful}
 
