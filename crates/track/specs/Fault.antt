@@ -1,5 +1,6 @@
 -- The first thing that is wrong with the stations and links of a track, if anything. Assumes nothing.
 use Rattle.std.specs.Prelude.{ℕ, ◌+◌, cond, ◌||◌, List, [], ◌∷◌, length, Some, None, Option, ◌==◌, nat_le, nat_lt}
+use Rattle.std.specs.Option.{option_or}
 use Rattle.track.specs.declared.link.Link.{Link}
 use Rattle.track.specs.declared.link.TrackFault.{TrackFault}
 use Rattle.track.specs.declared.link.TrackFault.TheVariants.{Stations, Links, First, Second, Same}
@@ -13,8 +14,7 @@ row_fault stations row link =
 
 -- the first of two faults
 abbrev pub before : Option TrackFault → Option TrackFault → Option TrackFault
-before (Some f) later = Some f
-before None later = later
+before = option_or
 
 -- the first fault of the links, whose rows are numbered from the given one on
 abbrev pub rows_fault : ℕ → ℕ → List Link → Option TrackFault

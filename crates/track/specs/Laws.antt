@@ -1,46 +1,26 @@
 -- A track without a fault is lawful. Assumes nothing.
-use Rattle.std.specs.Prelude.{◌≡◌, ℕ, zero, suc, ◌+◌, ◌<◌, ◌≤◌, false, ◌⊎◌, List, [], ◌∷◌, length, is_some, Some, None, Option, ◌≢◌, refl}
-use Rattle.std.proofs.Common.{sym, ap, ◌∙◌, inl, inr, arith}
+use Rattle.std.specs.Prelude.{◌≡◌, ℕ, ◌<◌, ◌≤◌, false, ◌⊎◌, List, [], ◌∷◌, length, is_some, Some, None, Option, ◌≢◌, refl}
+use Rattle.std.proofs.Common.{sym, subst, ⊎_elim, ap, ◌∙◌, inl, inr, arith}
 use Rattle.std.specs.List.{slice_get}
-use Rattle.std.proofs.lemmas.Bool.{true≢false}
-use Rattle.std.proofs.lemmas.Option.{slice_get_past}
+use Rattle.std.proofs.lemmas.Bool.{cases_lt}
+use Rattle.std.proofs.lemmas.Option.{slice_get_past, get_or_from_slice_get, none-some}
 use Rattle.std.proofs.lemmas.Bool.Decides.{nat_tests}
 use Rattle.plant.specs.Meaning.{Leads}
 use Rattle.plant.specs.Laws.{Lawful}
+use Rattle.plant.specs.Options.{none_from_test}
 use Rattle.track.specs.declared.link.Link.{Link}
-use Rattle.track.specs.declared.link.TrackFault.{TrackFault}
-use Rattle.track.specs.Fault.{fault, row_fault, rows_fault, before}
+use Rattle.track.specs.Fault.{fault}
+use Rattle.track.specs.Data.{Joins, TrackData}
+use Rattle.track.specs.Faultless.{data_from_none}
 use Rattle.track.specs.Track.{track, along, apart}
 
--- what a link without a fault is
-abbrev Joins : ℕ → Link → Type 0
-Joins n link = (link.one < n) × (link.other < n) × (link.one ≢ link.other)
-
-row_joins : (n row : ℕ) (link : Link) → is_some (row_fault n row link) ≡ false → Joins n link
-row_joins n row link e = (grind (arith, nat_tests), grind (arith, nat_tests), λ s. grind (arith, nat_tests))
-
--- no first fault of two: neither has one
-neither : (a b : Option TrackFault) → is_some (before a b) ≡ false → (is_some a ≡ false) × (is_some b ≡ false)
-neither (Some f) b e = (e, absurd (true≢false e))
-neither None b e = (refl, e)
-
-rows_join : (n row : ℕ) (links : List Link) → is_some (rows_fault n row links) ≡ false → (r : ℕ) (link : Link) → slice_get links r ≡ Some link → Joins n link
-rows_join n row [] e r link is = let z : ◌≡◌ {A = ℕ} 0 1 = cc in absurd (omega arith)
-rows_join n row (first ∷ links) e zero link is =
-    let same : first ≡ link = cc in
-    row_joins n row link (ap (λ l. is_some (row_fault n row l)) (sym same) ∙ (neither (row_fault n row first) (rows_fault n (row + 1) links) e).0)
-rows_join n row (first ∷ links) e (suc r) link is =
-    rows_join n (row + 1) links (neither (row_fault n row first) (rows_fault n (row + 1) links) e).1 r link is
-
--- what no fault says of the numbers, and leaves to the rows
-record InRange (n : ℕ) (links : List Link) : Type 0 where
-  low : 1 ≤ n
-  high : n ≤ 512
-  few : length links ≤ 1024
-  rows : is_some (rows_fault n 0 links) ≡ false
-
-in_range : (n : ℕ) (links : List Link) → is_some (fault n links) ≡ false → InRange n links
-in_range n links e = record { low = grind (arith, nat_tests); high = grind (arith, nat_tests); few = grind (arith, nat_tests); rows = grind (arith, nat_tests) }
+-- a link that an operation goes along joins two stations
+joins_at : (n : ℕ) (links : List Link) → TrackData n links → (r : ℕ) (link : Link) → slice_get links r ≡ Some link → Joins n link
+joins_at n links k r link is =
+    ⊎_elim
+    (λ h. subst (Joins n) (get_or_from_slice_get links r link link is) (k.joins r link h))
+    (λ h. absurd (none-some link (sym (slice_get_past links r h) ∙ is)))
+    (cases_lt r (length links))
 
 -- a step goes from one end of a link to the other
 abbrev Between : Link → ℕ → ℕ → Type 0
@@ -74,10 +54,10 @@ apart_least n links (o ∷ os) s t leads = let most = apart_most n s t in omega 
 
 pub track_lawful : (n : ℕ) (links : List Link) → is_some (fault n links) ≡ false → Lawful (track n links)
 track_lawful n links e =
-    let range = in_range n links e in
-    let joins = rows_join n 0 links range.rows in
+    let k = data_from_none n links (none_from_test _ e) in
+    let joins = joins_at n links k in
     record {
-      settings_some = range.low;
+      settings_some = k.stations_some;
       settings_most = omega arith;
       operations_most = omega arith;
       estimate_most = λ s t. let most = apart_most n s t in omega arith;

@@ -1,4 +1,5 @@
 pub mod Fault
 pub mod Data
+pub mod Faultless
 pub mod Track
 pub mod Laws

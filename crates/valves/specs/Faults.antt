@@ -1,13 +1,13 @@
 -- Which data make a bench, and what is wrong first where they do not. Assumes nothing.
 use Rattle.std.specs.Prelude.{ℕ, suc, cond, ◌||◌, List, [], ◌∷◌, length, Some, None, Option, ◌==◌, nat_le, nat_lt, slice_index}
+use Rattle.std.specs.Option.{option_or}
 use Rattle.valves.specs.declared.interlock.Interlock.{Interlock}
 use Rattle.valves.specs.declared.fault.BenchFault.{BenchFault}
 use Rattle.valves.specs.declared.fault.BenchFault.TheVariants.{Valves, Interlocks, Positions, Valve, Position, Other, Same, Stands}
 
 -- the first of two faults
 abbrev pub either_fault : Option BenchFault → Option BenchFault → Option BenchFault
-either_fault None g = g
-either_fault (Some f) g = Some f
+either_fault = option_or
 
 -- the numbers of positions, valve by valve from valve v on
 abbrev pub positions_fault : List ℕ → ℕ → Option BenchFault

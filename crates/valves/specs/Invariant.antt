@@ -1,10 +1,10 @@
 -- What every bench that there is keeps: its data are good, and its places hold them. Assumes nothing.
-use Rattle.std.specs.Prelude.{◌≡◌, ℕ, suc, ◌+◌, ◌*◌, ◌/◌, ◌%◌, ◌<◌, false, length, is_some, Some, None, Option, slice_index, slice_index_or, refl}
+use Rattle.std.specs.Prelude.{◌≡◌, ℕ, suc, ◌+◌, ◌*◌, ◌/◌, ◌%◌, ◌<◌, length, slice_index, slice_index_or, refl}
 use Rattle.std.proofs.Common.{sym, ap, ◌∙◌, arith}
 use Rattle.std.proofs.lemmas.List.{length-map, get_or-map}
 use Rattle.plant.specs.Laws.{Lawful}
+use Rattle.plant.specs.Options.{none_from_test}
 use Rattle.valves.specs.declared.interlock.Interlock.{Interlock}
-use Rattle.valves.specs.declared.fault.BenchFault.{BenchFault}
 use Rattle.valves.specs.declared.bench.Bench.{Bench}
 use Rattle.valves.specs.Of.{counts_of, interlocks_of, bench_of}
 use Rattle.valves.specs.Data.{BenchData}
@@ -16,10 +16,6 @@ use Rattle.valves.specs.declared.bench.row.Row.{Row}
 use Rattle.valves.specs.Faultless.{data_from_none}
 use Rattle.valves.specs.Numbering.{position_digit, weight_more}
 use Rattle.valves.specs.BenchLawful.{bench_lawful}
-
-none_from_test : (f : Option BenchFault) → is_some f ≡ false → f ≡ None
-none_from_test None e = refl
-none_from_test (Some f) e = let clash : ◌≡◌ {A = ℕ} 0 1 = cc in absurd (omega arith)
 
 pub data_of : (b : Bench) → BenchData (counts_of b) (interlocks_of b)
 data_of b = data_from_none (counts_of b) (interlocks_of b) (none_from_test _ b.faultless)

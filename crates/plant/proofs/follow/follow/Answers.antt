@@ -3,11 +3,8 @@ use Rattle.std.proofs.Common.{sym, ◌∙◌}
 use Rattle.plant.proofs.Leading.{leads_from_after, after_from_leads}
 use Rattle.plant.proofs.follow.follow.Goals as goal
 
-pub returns : goal.returns
-returns g c =
+pub returns-clause-leads : goal.returns-clause-leads
+returns-clause-leads g c =
     let m = g.P.Plant.meaning c.args.plant.now in
     let os = c.args.operations.now in
-    record {
-      exact = c.walk.ensures;
-      leads = λ t. (λ e. leads_from_after m os c.args.start t (sym c.walk.ensures ∙ e), λ h. c.walk.ensures ∙ after_from_leads m os c.args.start t h);
-    }
+    λ t. (λ e. leads_from_after m os c.args.start t (sym c.walk.ensures ∙ e), λ h. c.walk.ensures ∙ after_from_leads m os c.args.start t h)

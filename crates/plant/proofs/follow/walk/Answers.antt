@@ -1,6 +1,7 @@
 -- One operation a turn.
 use Rattle.std.proofs.Common.{◌+◌, drop, sym, ap, ◌∙◌}
-use Rattle.plant.specs.Follow.{on_from, after}
+use Rattle.std.specs.Option.{option_and_then}
+use Rattle.plant.specs.Follow.{after}
 use Rattle.plant.proofs.Leading.{after_more, after_all}
 use Rattle.plant.proofs.follow.walk.Goals as goal
 
@@ -11,7 +12,7 @@ returns-in_err-setting g c =
     let i = c.loop-operation.operation-index in
     c.from_residual.ensures
     ∙ (sym (after_more m c.loop-operation.setting os i c.loop-operation-test.true
-    ∙ ap (λ x. on_from x (λ u. after m u (drop (i + 1) os))) (sym c.step.ensures ∙ c.in_err-setting.was)) ∙ c.loop-operation.invariant)
+    ∙ ap (option_and_then (λ u. after m u (drop (i + 1) os))) (sym c.step.ensures ∙ c.in_err-setting.was)) ∙ c.loop-operation.invariant)
 
 pub loop-operation-preserved : goal.loop-operation-preserved
 loop-operation-preserved g c =
@@ -19,7 +20,7 @@ loop-operation-preserved g c =
     let os = c.args.operations.now in
     let i = c.loop-operation.operation-index in
     sym (after_more m c.loop-operation.setting os i c.loop-operation-test.true
-    ∙ ap (λ x. on_from x (λ u. after m u (drop (i + 1) os))) (sym c.step.ensures ∙ c.in_ok-setting.was)) ∙ c.loop-operation.invariant
+    ∙ ap (option_and_then (λ u. after m u (drop (i + 1) os))) (sym c.step.ensures ∙ c.in_ok-setting.was)) ∙ c.loop-operation.invariant
 
 pub returns : goal.returns
 returns g c =

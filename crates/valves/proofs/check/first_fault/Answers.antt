@@ -3,8 +3,6 @@ use Rattle.std.proofs.Common.{sym, ◌∙◌}
 use Rattle.valves.specs.Faultless.{data_from_none, none_from_data}
 use Rattle.valves.proofs.check.first_fault.Goals as goal
 
-pub returns : goal.returns
-returns c = record {
-  exact = c.err.ensures.value ∙ c.check.ensures;
-  none = (λ e. data_from_none _ _ (sym c.check.ensures ∙ (sym c.err.ensures.value ∙ e)), λ k. c.err.ensures.value ∙ (c.check.ensures ∙ none_from_data _ _ k));
-}
+pub returns-clause-none : goal.returns-clause-none
+returns-clause-none c =
+    (λ e. data_from_none _ _ (sym c.check.ensures ∙ (sym c.err.ensures.value ∙ e)), λ k. c.err.ensures.value ∙ (c.check.ensures ∙ none_from_data _ _ k))
