@@ -1,8 +1,8 @@
 // The bodies of the entries, taken one after another.
-ghost use Rattle.std.specs.Prelude.{◌≡◌, drop};
+ghost use Rattle.std.specs.Prelude.{◌≡◌};
 ghost use Rattle.std.specs.List.{slice_get};
 ghost use Rattle.std.specs.Result.{result_err};
-ghost use Rattle.file.specs.Parts.{plant_before, kind_fault, parts_from, parts_fault};
+ghost use Rattle.file.specs.Parts.{plant_before, kind_fault, parts_fault};
 ghost use Rattle.file.specs.Taken.{BodyTaken, BodyIs, parts_left};
 
 use crate::body::{Bodies, Body};
@@ -65,7 +65,7 @@ fn body_fault(rows: Rows, body: Body) -> Option<BodyFault>
 {
     let place = body.place;
     match body.kind? {
-        Kind::Valves => { valves_fault(body.bytes).map(|fault| BodyFault::Valves { place, fault }) }
+        Kind::Valves => valves_fault(body.bytes).map(|fault| BodyFault::Valves { place, fault }),
         Kind::Track => track_fault(body.bytes).map(|fault| BodyFault::Track { place, fault }),
         Kind::Job => {
             let named = body.bytes.first().copied().unwrap_or(0);

@@ -1,5 +1,5 @@
 // Reading a file: its head, its rows, its length, and then its bodies are checked.
-ghost use Rattle.std.specs.Prelude.{◌≡◌, ◌≤◌, length, IfOk};
+ghost use Rattle.std.specs.Prelude.{◌≡◌, IfOk};
 ghost use Rattle.std.specs.Result.{result_err};
 ghost use Rattle.file.specs.Read.{head_fault, contents_fault, read_fault};
 ghost use Rattle.file.specs.Held.{entries_bytes, entries_reader};

@@ -13,7 +13,9 @@ pub(crate) fn run_line(rt: &HostRuntime, line: &str) -> anyhow::Result<()> {
         rt.println(line)?;
         return Ok(());
     }
-    let (name, rest) = line.split_once(": ").context("a line has a name and a file")?;
+    let (name, rest) = line
+        .split_once(": ")
+        .context("a line has a name and a file")?;
     tell(rt, name, fault_of(rt, rest)?)
 }
 

@@ -1,9 +1,11 @@
 // Files with a fault each, and what is told of it; and a book that has none.
 use book::first_book_fault;
+use book::read::Book;
 use fault_line::line::Line;
 use faults::fault::FileFault;
+use file::entries::Entries;
 use file::file::File;
-use file::kind::Reader;
+use file::kind::{Kind, Reader, UnknownKind};
 use std::process::Abort;
 use std::test::Fail;
 
@@ -39,19 +41,59 @@ const BODIES: [Case; 12] = [
     (b"\x01\x00\x01\x00\x02\x00\x00\x00", 3, 12, 6),
     (b"\x01\x00\x01\x00\x04\x00\x02\x00\x02\x05", 3, 12, 9),
     // an interlock of a valve with itself, and of a position that there is not
-    (b"\x01\x00\x01\x00\x08\x00\x02\x01\x03\x02\x00\x02\x00\x00", 3, 12, 12),
-    (b"\x01\x00\x01\x00\x08\x00\x02\x01\x03\x02\x00\x02\x01\x02", 3, 12, 13),
+    (
+        b"\x01\x00\x01\x00\x08\x00\x02\x01\x03\x02\x00\x02\x00\x00",
+        3,
+        12,
+        12,
+    ),
+    (
+        b"\x01\x00\x01\x00\x08\x00\x02\x01\x03\x02\x00\x02\x01\x02",
+        3,
+        12,
+        13,
+    ),
     // a track of no station, and a link from a station to itself
     (b"\x01\x00\x02\x00\x04\x00\x00\x00\x00\x00", 3, 12, 6),
-    (b"\x01\x00\x02\x00\x08\x00\x02\x00\x01\x00\x01\x00\x01\x00", 3, 12, 12),
+    (
+        b"\x01\x00\x02\x00\x08\x00\x02\x00\x01\x00\x01\x00\x01\x00",
+        3,
+        12,
+        12,
+    ),
     // a job on itself
-    (b"\x01\x00\x03\x00\x0c\x00\x00\x00\x04\x00\x00\x00\x00\x00\x02\x00\x00\x00", 3, 12, 6),
+    (
+        b"\x01\x00\x03\x00\x0c\x00\x00\x00\x04\x00\x00\x00\x00\x00\x02\x00\x00\x00",
+        3,
+        12,
+        6,
+    ),
     // a steps body of an odd length, of an answer that is none, of a count under a refusal
-    (b"\x01\x00\x04\x00\x0b\x00\x00\x00\x00\x00\x00\x00\x00\x00\x00\x00\x00", 3, 12, 6),
-    (b"\x01\x00\x04\x00\x0a\x00\x03\x00\x00\x00\x00\x00\x00\x00\x00\x00", 3, 12, 6),
-    (b"\x01\x00\x04\x00\x0a\x00\x07\x00\x01\x00\x00\x00\x00\x00\x00\x00", 3, 12, 8),
+    (
+        b"\x01\x00\x04\x00\x0b\x00\x00\x00\x00\x00\x00\x00\x00\x00\x00\x00\x00",
+        3,
+        12,
+        6,
+    ),
+    (
+        b"\x01\x00\x04\x00\x0a\x00\x03\x00\x00\x00\x00\x00\x00\x00\x00\x00",
+        3,
+        12,
+        6,
+    ),
+    (
+        b"\x01\x00\x04\x00\x0a\x00\x07\x00\x01\x00\x00\x00\x00\x00\x00\x00",
+        3,
+        12,
+        8,
+    ),
     // and one that is right, in a book
-    (b"\x01\x00\x04\x00\x0a\x00\x07\x00\x00\x00\x00\x00\x00\x00\x00\x00", 2, 14, 2),
+    (
+        b"\x01\x00\x04\x00\x0a\x00\x07\x00\x00\x00\x00\x00\x00\x00\x00\x00",
+        2,
+        14,
+        2,
+    ),
 ];
 
 #[test]
@@ -79,6 +121,24 @@ fn book_of_a_bench_and_a_job(rt: HostRuntime) {
     assert_eq!(rt; file.entries(), 2);
     assert!(rt; file.entry(1).is_some());
     assert!(rt; file.entry(2).is_none());
+}
+
+#[test]
+fn no_book_and_no_entries(rt: HostRuntime) -> Result<(), Fail> {
+    assert!(rt; Book::read(b"\x07").is_err());
+    assert!(rt; Entries::read(Reader::StepsAlone, b"\x01\x00\x03\x00\x00\x00").is_err());
+    let Ok(book) = Book::read(b"\x00\x00") else {
+        return Err(Fail::new("a fault"));
+    };
+    assert_eq!(rt; book.len(), 0);
+    assert!(rt; book.get(0).is_none());
+    Ok(())
+}
+
+#[test]
+fn kinds(rt: HostRuntime) {
+    assert_eq!(rt; Kind::try_from(3), Ok(Kind::Job));
+    assert_eq!(rt; Kind::try_from(5), Err(UnknownKind(5)));
 }
 
 #[test]

@@ -50,7 +50,10 @@ fn refusals(rt: HostRuntime) -> Result<(), Fail> {
 fn over_and_under(rt: HostRuntime) -> Result<(), Fail> {
     let mut buffer = [0u8; 8];
     let mut open = EmptySheet::new().open(&mut buffer, 0)?;
-    assert_eq!(rt; open.put(&mut buffer, 0, 0, &[]), Err(SheetRefusal::OverCount));
+    assert_eq!(rt;
+        open.put(&mut buffer, 0, 0, &[]),
+        Err(SheetRefusal::OverCount)
+    );
     let other = EmptySheet::new().open(&mut buffer, 1)?;
     let Err(refused) = other.close() else {
         return Err(Fail::new("closed"));
