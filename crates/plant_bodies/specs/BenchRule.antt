@@ -1,21 +1,17 @@
 -- What is wrong first with the body of a valve bench: V, R, V numbers of positions, R interlocks of four bytes. Assumes nothing.
-use Rattle.std.specs.Prelude.{ℕ, zero, suc, ◌+◌, ◌*◌, cond, not, List, [], ◌∷◌, length, take, drop, Some, Option, ◌==◌, slice_index}
+use Rattle.std.specs.Prelude.{ℕ, ◌+◌, ◌*◌, cond, not, List, length, take, drop, Some, Option, ◌==◌, slice_index}
 use Rattle.std.specs.Option.{option_map}
 use Rattle.valves.specs.declared.interlock.Interlock.{Interlock}
 use Rattle.valves.specs.declared.fault.BenchFault.{BenchFault}
 use Rattle.valves.specs.declared.fault.BenchFault.TheVariants as bench
 use Rattle.valves.specs.Faults.{bench_fault}
+use Rattle.plant_bodies.specs.Rows.{rows_in, interlock}
 use Rattle.plant_bodies.specs.declared.bench_body.ValvesFault.{ValvesFault}
 use Rattle.plant_bodies.specs.declared.bench_body.ValvesFault.TheVariants.{Length, Bench}
 
--- the interlock in four bytes
-abbrev pub interlock : List ℕ → Interlock
-interlock bs = record { valve = slice_index bs 0; position = slice_index bs 1; other = slice_index bs 2; stands = slice_index bs 3 }
-
 -- r interlocks, one after another
 abbrev pub interlocks_in : ℕ → List ℕ → List Interlock
-interlocks_in zero bs = []
-interlocks_in (suc r) bs = interlock bs ∷ interlocks_in r (drop 4 bs)
+interlocks_in r bs = rows_in interlock r bs
 
 -- what the body counts
 abbrev pub valves_in : List ℕ → ℕ

@@ -1,9 +1,15 @@
 // What is wrong first with the body of a valve bench.
-ghost use Rattle.std.specs.Prelude.{◌≡◌, ◌*◌, ◌≤◌, length};
-ghost use Rattle.valves.specs.Faults.{bench_fault, positions_fault, interlock_fault, interlocks_fault};
-ghost use Rattle.plant_bodies.specs.BenchRule.{interlock, interlocks_in, valves_fault};
+ghost use Rattle.std.specs.Prelude.{◌≡◌};
+ghost use Rattle.plant_bodies.specs.BenchRule.{valves_fault};
 
+use crate::rows::read_rows;
+use arrayvec::ArrayVec;
+use valves::check::first_fault;
 use valves::fault::BenchFault;
+use valves::interlock::Interlock;
+
+// One interlock more than a bench can have, so that too many are told from enough.
+const INTERLOCKS: usize = 33;
 
 #[derive(Clone, Copy, PartialEq, Eq, Debug)]
 pub enum ValvesFault {
@@ -11,79 +17,6 @@ pub enum ValvesFault {
     Length,
     // of a body that counts so many valves
     Bench { valves: u8, fault: BenchFault },
-}
-
-// The first valve whose number of positions is none.
-fn positions_fault(positions: &[u8]) -> Option<BenchFault>
-    requires { length positions.now ≤ 12 }
-    ensures { result ≡ positions_fault positions.now 0 }
-{
-    for (valve, number) in positions.iter().enumerate() {
-        if *number < 2 || *number > 4 {
-            return Some(BenchFault::Positions(valve as u8));
-        }
-    }
-    None
-}
-
-// The first field of the interlock in this row that is wrong.
-fn interlock_fault(positions: &[u8], fields: [u8; 4], row: u8) -> Option<BenchFault>
-    ensures { result ≡ interlock_fault positions.now (interlock fields) row }
-{
-    let [valve, position, other, stands] = fields;
-    if valve as usize >= positions.len() {
-        return Some(BenchFault::Valve(row));
-    }
-    if position >= positions[valve as usize] {
-        return Some(BenchFault::Position(row));
-    }
-    if other as usize >= positions.len() {
-        return Some(BenchFault::Other(row));
-    }
-    if other == valve {
-        return Some(BenchFault::Same(row));
-    }
-    if stands >= positions[other as usize] {
-        return Some(BenchFault::Stands(row));
-    }
-    None
-}
-
-// The first fault of so many interlocks, four bytes each.
-fn interlocks_fault(positions: &[u8], count: u8, interlocks: &[u8]) -> Option<BenchFault>
-    requires { 4 * count ≤ length interlocks.now }
-    ensures { result ≡ interlocks_fault positions.now (interlocks_in count interlocks.now) 0 }
-{
-    let mut rest = interlocks;
-    for row in 0..count {
-        let [valve, position, other, stands, after @ ..] = rest else {
-            return unreachable();
-        };
-        match interlock_fault(positions, [*valve, *position, *other, *stands], row) {
-            Some(fault) => return Some(fault),
-            None => {}
-        }
-        rest = after;
-    }
-    None
-}
-
-// The first fault of a bench with these numbers of positions and so many interlocks.
-fn bench_fault(positions: &[u8], count: u8, interlocks: &[u8]) -> Option<BenchFault>
-    requires { 4 * count ≤ length interlocks.now }
-    ensures { result ≡ bench_fault positions.now (interlocks_in count interlocks.now) }
-{
-    if positions.len() < 1 || positions.len() > 12 {
-        return Some(BenchFault::Valves);
-    }
-    if count > 32 {
-        return Some(BenchFault::Interlocks);
-    }
-    match positions_fault(positions) {
-        Some(fault) => return Some(fault),
-        None => {}
-    }
-    interlocks_fault(positions, count, interlocks)
 }
 
 // The first fault of the body of a valve bench: its length, then the bench's first fault.
@@ -98,11 +31,12 @@ pub fn valves_fault(body: &[u8]) -> Option<ValvesFault>
     if rest.len() != end {
         return Some(ValvesFault::Length);
     }
-    match bench_fault(&rest[0..split], *count, &rest[split..end]) {
-        Some(fault) => Some(ValvesFault::Bench {
-            valves: *valves,
-            fault,
-        }),
-        None => None,
-    }
+    let (positions, rows) = rest.split_at(split);
+    let mut interlocks = ArrayVec::<Interlock, INTERLOCKS>::new();
+    read_rows(&mut interlocks, rows);
+    let fault = first_fault(positions, &interlocks)?;
+    Some(ValvesFault::Bench {
+        valves: *valves,
+        fault,
+    })
 }
