@@ -1,15 +1,14 @@
 -- The checks of a bench's body, where one interlock more than a bench has is read at most. Assumes nothing.
-use Rattle.std.proofs.Common.{◌≡◌, ℕ, ◌+◌, ◌-◌, ◌*◌, ◌/◌, ◌<◌, ◌≤◌, cond, not, ◌||◌, ltb, List, length, take, drop, Some, Option, sym, ap, ◌∙◌, inl, inr, arith, length-drop, take_all}
+use Rattle.std.proofs.Common.{◌≡◌, false, ℕ, ◌+◌, ◌-◌, ◌*◌, ◌/◌, ◌<◌, ◌≤◌, cond, not, ◌||◌, ltb, List, length, take, drop, Some, sym, ap, ◌∙◌, inl, inr, arith, length-drop, take_all}
 use Rattle.std.specs.Option.{option_map}
-use Rattle.std.proofs.lemmas.List.{take_rest, drop-drop, length-take-le}
-use Rattle.std.proofs.lemmas.Bool.{cases_lt, cond-true, lt-ltb, eq-eqb}
+use Rattle.std.proofs.lemmas.List.{length-take-le, take_rest, drop-drop}
+use Rattle.std.proofs.lemmas.Bool.{cases_lt, cond-true, lt-ltb, eqb-true, eq-eqb}
 use Rattle.valves.specs.declared.interlock.Interlock.{Interlock}
-use Rattle.valves.specs.declared.fault.BenchFault.{BenchFault}
 use Rattle.valves.specs.declared.fault.BenchFault.TheVariants as bench
 use Rattle.valves.specs.Faults.{bench_fault}
 use Rattle.plant_bodies.specs.declared.bench_body.ValvesFault.TheVariants.{Length, Bench}
 use Rattle.plant_bodies.specs.Rows.{rows_in, interlock}
-use Rattle.plant_bodies.specs.BenchRule.{valves_in, interlock_count, body_positions, body_interlocks, valves_fault}
+use Rattle.plant_bodies.specs.BenchRule.{valves_in, interlock_count, body_positions, body_interlocks, bench_long, BenchSays, valves_fault}
 
 -- too many interlocks are told by their number
 many : (ns : List ℕ) (ls : List Interlock) → 32 < length ls → bench_fault ns ls ≡ cond (ltb (length ns) 1 || ltb 12 (length ns)) (Some bench.Valves) (Some bench.Interlocks)
@@ -23,25 +22,38 @@ first_enough ns ls =
       | inr few ↦ ap (bench_fault ns) (take_all 33 ls (omega arith))
     ]
 
--- a body that is as long as it says
-body_fault : (bs : List ℕ) (o : Option BenchFault) → length bs ≡ 2 + (valves_in bs + 4 * interlock_count bs) →
-    o ≡ bench_fault (body_positions bs) (body_interlocks bs) → option_map (Bench (valves_in bs)) o ≡ valves_fault bs
-body_fault bs o e q =
-    ap (option_map (Bench (valves_in bs))) q
-    ∙ sym (ap (λ b. cond (not b) (Some Length) (option_map (Bench (valves_in bs)) (bench_fault (body_positions bs) (body_interlocks bs)))) (eq-eqb (length bs) _ e))
-
--- the fault of the parts is that of the body
-pub parts_fault : (bs positions rows : List ℕ) (ls : List Interlock) (o : Option BenchFault) → 2 ≤ length bs →
+-- the parts of a body
+pub parts_said : (bs positions rows : List ℕ) (ls : List Interlock) → 2 ≤ length bs →
     length (take (length bs - 2) (drop 2 bs)) ≡ valves_in bs + 4 * interlock_count bs →
     positions ≡ take (valves_in bs) (take (length bs - 2) (drop 2 bs)) → rows ≡ drop (valves_in bs) (take (length bs - 2) (drop 2 bs)) →
-    ls ≡ take 33 (rows_in interlock (length rows / 4) rows) → o ≡ bench_fault positions ls → option_map (Bench (valves_in bs)) o ≡ valves_fault bs
-parts_fault bs positions rows ls o h e p q l f =
+    ls ≡ take 33 (rows_in interlock (length rows / 4) rows) → BenchSays bs positions ls
+parts_said bs positions rows ls h e p q l =
     let v = valves_in bs in
     let r = interlock_count bs in
     let behind = take_rest bs 2 in
     let whole : length bs ≡ 2 + (v + 4 * r) = omega (arith, e, ap length behind ∙ length-drop 2 bs) in
     let s : rows ≡ drop (2 + v) bs = q ∙ (ap (drop v) behind ∙ drop-drop v 2 bs) in
     let n : length rows / 4 ≡ r = omega (arith, whole, ap length s ∙ length-drop (2 + v) bs) in
-    let locks : ls ≡ take 33 (body_interlocks bs) = l ∙ (ap (λ k. take 33 (rows_in interlock k rows)) n ∙ ap (λ xs. take 33 (rows_in interlock r xs)) s) in
-    body_fault bs o whole
-    (f ∙ (ap (λ ns. bench_fault ns ls) (p ∙ ap (take v) behind) ∙ (ap (bench_fault (body_positions bs)) locks ∙ first_enough (body_positions bs) (body_interlocks bs))))
+    record {
+      long = eq-eqb (length bs) _ whole;
+      positions = p ∙ ap (take v) behind;
+      interlocks = l ∙ (ap (λ k. take 33 (rows_in interlock k rows)) n ∙ ap (λ xs. take 33 (rows_in interlock r xs)) s);
+    }
+
+-- the fault of the parts is that of the body
+pub said_fault : (bs ns : List ℕ) (ls : List Interlock) → BenchSays bs ns ls → option_map (Bench (valves_in bs)) (bench_fault ns ls) ≡ valves_fault bs
+said_fault bs ns ls s =
+    ap (option_map (Bench (valves_in bs)))
+    (ap (λ ms. bench_fault ms ls) s.positions ∙ (ap (bench_fault (body_positions bs)) s.interlocks ∙ first_enough (body_positions bs) (body_interlocks bs)))
+    ∙ sym (ap (λ b. cond (not b) (Some Length) (option_map (Bench (valves_in bs)) (bench_fault (body_positions bs) (body_interlocks bs)))) s.long)
+
+-- there are as many numbers of positions as told
+pub said_valves : (bs ns : List ℕ) (ls : List Interlock) → BenchSays bs ns ls → length ns ≡ valves_in bs
+said_valves bs ns ls s =
+    let whole : length bs ≡ 2 + (valves_in bs + 4 * interlock_count bs) = eqb-true (length bs) _ s.long in
+    let behind : length (drop 2 bs) ≡ length bs - 2 = length-drop 2 bs in
+    ap length s.positions ∙ length-take-le (valves_in bs) (drop 2 bs) (omega arith)
+
+-- a body of the wrong length
+pub long_fault : (bs : List ℕ) → bench_long bs ≡ false → Some Length ≡ valves_fault bs
+long_fault bs e = sym (ap (λ b. cond (not b) (Some Length) (option_map (Bench (valves_in bs)) (bench_fault (body_positions bs) (body_interlocks bs)))) e)
