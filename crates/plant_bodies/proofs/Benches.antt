@@ -1,5 +1,5 @@
 -- The checks of a bench's body, where one interlock more than a bench has is read at most. Assumes nothing.
-use Rattle.std.proofs.Common.{◌≡◌, false, ℕ, ◌+◌, ◌-◌, ◌*◌, ◌/◌, ◌<◌, ◌≤◌, cond, not, ◌||◌, ltb, List, length, take, drop, Some, sym, ap, ◌∙◌, inl, inr, arith, length-drop, take_all}
+use Rattle.std.proofs.Common.{◌≡◌, ℕ, ◌+◌, ◌-◌, ◌*◌, ◌/◌, ◌<◌, ◌≤◌, cond, not, ◌||◌, ltb, List, length, take, drop, Some, sym, ap, ◌∙◌, inl, inr, arith, length-drop, take_all}
 use Rattle.std.specs.Option.{option_map}
 use Rattle.std.proofs.lemmas.List.{length-take-le, take_rest, drop-drop}
 use Rattle.std.proofs.lemmas.Bool.{cases_lt, cond-true, lt-ltb, eqb-true, eq-eqb}
@@ -8,7 +8,7 @@ use Rattle.valves.specs.declared.fault.BenchFault.TheVariants as bench
 use Rattle.valves.specs.Faults.{bench_fault}
 use Rattle.plant_bodies.specs.declared.bench_body.ValvesFault.TheVariants.{Length, Bench}
 use Rattle.plant_bodies.specs.Rows.{rows_in, interlock}
-use Rattle.plant_bodies.specs.BenchRule.{valves_in, interlock_count, body_positions, body_interlocks, bench_long, BenchSays, valves_fault}
+use Rattle.plant_bodies.specs.BenchRule.{valves_in, interlock_count, body_positions, body_interlocks, BenchSays, valves_fault}
 
 -- too many interlocks are told by their number
 many : (ns : List ℕ) (ls : List Interlock) → 32 < length ls → bench_fault ns ls ≡ cond (ltb (length ns) 1 || ltb 12 (length ns)) (Some bench.Valves) (Some bench.Interlocks)
@@ -53,7 +53,3 @@ said_valves bs ns ls s =
     let whole : length bs ≡ 2 + (valves_in bs + 4 * interlock_count bs) = eqb-true (length bs) _ s.long in
     let behind : length (drop 2 bs) ≡ length bs - 2 = length-drop 2 bs in
     ap length s.positions ∙ length-take-le (valves_in bs) (drop 2 bs) (omega arith)
-
--- a body of the wrong length
-pub long_fault : (bs : List ℕ) → bench_long bs ≡ false → Some Length ≡ valves_fault bs
-long_fault bs e = sym (ap (λ b. cond (not b) (Some Length) (option_map (Bench (valves_in bs)) (bench_fault (body_positions bs) (body_interlocks bs)))) e)

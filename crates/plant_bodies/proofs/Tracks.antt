@@ -1,5 +1,5 @@
 -- The checks of a track's body, where one link more than a track has is read at most. Assumes nothing.
-use Rattle.std.proofs.Common.{◌≡◌, false, ℕ, ◌<◌, cond, not, ◌||◌, eqb, ltb, List, length, take, Some, sym, ap, ◌∙◌, inl, inr, arith, take_all}
+use Rattle.std.proofs.Common.{◌≡◌, ℕ, ◌<◌, cond, not, ◌||◌, eqb, ltb, List, length, take, Some, sym, ap, ◌∙◌, inl, inr, arith, take_all}
 use Rattle.std.specs.Option.{option_map}
 use Rattle.std.proofs.lemmas.List.{length-take-le}
 use Rattle.std.proofs.lemmas.Bool.{cases_lt, cond-true, lt-ltb}
@@ -7,7 +7,7 @@ use Rattle.track.specs.declared.link.Link.{Link}
 use Rattle.track.specs.declared.link.TrackFault.TheVariants as track
 use Rattle.track.specs.Fault.{fault}
 use Rattle.plant_bodies.specs.declared.track_body.TrackBodyFault.TheVariants.{Length, Track}
-use Rattle.plant_bodies.specs.TrackRule.{stations_in, body_links, track_long, TrackSays, track_fault}
+use Rattle.plant_bodies.specs.TrackRule.{stations_in, body_links, TrackSays, track_fault}
 
 -- too many links are told by their number
 many : (n : ℕ) (ls : List Link) → 1024 < length ls → fault n ls ≡ cond (eqb n 0 || ltb 512 n) (Some track.Stations) (Some track.Links)
@@ -26,7 +26,3 @@ pub said_fault : (bs : List ℕ) (n : ℕ) (ls : List Link) → TrackSays bs n l
 said_fault bs n ls s =
     ap (option_map Track) (ap (λ k. fault k ls) s.stations ∙ (ap (fault (stations_in bs)) s.links ∙ first_enough (stations_in bs) (body_links bs)))
     ∙ sym (ap (λ b. cond (not b) (Some Length) (option_map Track (fault (stations_in bs) (body_links bs)))) s.long)
-
--- a body of the wrong length
-pub long_fault : (bs : List ℕ) → track_long bs ≡ false → Some Length ≡ track_fault bs
-long_fault bs e = sym (ap (λ b. cond (not b) (Some Length) (option_map Track (fault (stations_in bs) (body_links bs)))) e)
