@@ -1,8 +1,10 @@
 -- Numbers in bytes taken two by two: by place, and back from the bytes that were written. Assumes nothing.
 use Rattle.std.proofs.Common.{◌≡◌, ℕ, zero, suc, ◌+◌, ◌*◌, ◌/◌, ◌%◌, ◌<◌, ◌≤◌, true, ltb, List, [], ◌∷◌, ◌++◌, length, get_or, Some, None, refl, ap, ◌∙◌, arith}
 use Rattle.std.specs.List.{slice_get}
+use Rattle.std.specs.Simd.{first_chunks}
 use Rattle.std.proofs.lemmas.Bool.{and_parts, and_from, ltb-true, lt-ltb}
 use Rattle.numbers.specs.Low.{low, value, Bytes}
+use Rattle.numbers.proofs.Chunks.{chunk_number}
 use Rattle.numbers.proofs.Laws.{value_low, low_value}
 use Rattle.sheet.specs.Steps.{all_below}
 use Rattle.sheet.specs.Bytes.{words}
@@ -24,6 +26,15 @@ pairs_at (x ∷ (y ∷ zs)) (suc i) h =
     let a : 2 * suc i ≡ suc (suc (2 * i)) = omega arith in
     let b : 2 * suc i + 1 ≡ suc (suc (2 * i + 1)) = omega arith in
     rw (b, a) (pairs_at zs i (omega arith))
+
+-- the pair of bytes at a place
+pub pair_at : (xs w : List ℕ) (i n : ℕ) → i < length xs / 2 → w ≡ get_or (first_chunks 2 (length xs / 2) xs) i [] → n ≡ get_or w 0 0 + 256 * (get_or w 1 0 + 0) → Some n ≡ slice_get (pairs xs) i
+pair_at xs w i n h e f =
+    let first : 2 * i + 0 ≡ 2 * i = omega arith in
+    let a : get_or w 0 0 ≡ get_or xs (2 * i) 0 = ap (λ t. get_or t 0 0) e ∙ (chunk_number 2 (length xs / 2) i 0 xs h (omega arith) ∙ ap (λ m. get_or xs m 0) first) in
+    let b : get_or w 1 0 ≡ get_or xs (2 * i + 1) 0 = ap (λ t. get_or t 1 0) e ∙ chunk_number 2 (length xs / 2) i 1 xs h (omega arith) in
+    let m : n ≡ get_or xs (2 * i) 0 + 256 * (get_or xs (2 * i + 1) 0 + 0) = omega (arith, f, a, b) in
+    ap Some m ∙ pairs_at xs i h
 
 pub length_pairs : (xs : List ℕ) → length (pairs xs) ≡ length xs / 2
 length_pairs [] = refl

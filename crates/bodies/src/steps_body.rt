@@ -31,8 +31,7 @@ pub fn steps_body<'a>(body: &'a [u8]) -> Option<StepsBody<'a>>
 pub fn operation(operations: &[u8], place: usize) -> Option<u16>
     ensures { result ≡ slice_get (pairs operations.now) place }
 {
-    if place >= operations.len() / 2 {
-        return None;
-    }
-    Some(word(operations[2 * place], operations[2 * place + 1]))
+    let (pairs, _) = operations.as_chunks::<2>();
+    let [low, high] = pairs.get(place)?;
+    Some(word(*low, *high))
 }

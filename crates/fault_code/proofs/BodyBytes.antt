@@ -1,5 +1,5 @@
 -- The byte of a body's fault is none past the body's end. Assumes nothing.
-use Rattle.std.proofs.Common.{◌≡◌, ℕ, zero, suc, ◌+◌, ◌*◌, ◌%◌, ◌≤◌, Bool, false, cond, not, ◌&&◌, ◌||◌, eqb, ltb, leb, List, [], ◌∷◌, length, get_or, take, drop, Some, None, Option, refl, arith, length-take}
+use Rattle.std.proofs.Common.{◌≡◌, ℕ, suc, ◌+◌, ◌*◌, ◌%◌, ◌≤◌, Bool, false, cond, not, ◌&&◌, ◌||◌, eqb, ltb, leb, List, [], ◌∷◌, length, get_or, take, drop, Some, None, Option, refl, arith, length-take}
 use Rattle.std.specs.Option.{option_map}
 use Rattle.std.proofs.lemmas.Bool.{cond_both, not-false, eqb-true, and_parts, leb-true}
 use Rattle.numbers.specs.Low.{value}
@@ -14,10 +14,14 @@ use Rattle.bodies.specs.JobRule.{job_fault, job_byte}
 use Rattle.plant_bodies.specs.declared.bench_body.ValvesFault.TheVariants as valves
 use Rattle.plant_bodies.specs.declared.bench_body.ValvesFault.TheVariants.{Bench}
 use Rattle.plant_bodies.specs.BenchRule.{valves_in, interlock_count, body_positions, body_interlocks, bench_byte, valves_fault, valves_byte}
-use Rattle.plant_bodies.specs.declared.track_body.TrackFault.{TrackFault}
-use Rattle.plant_bodies.specs.declared.track_body.TrackFault.TheVariants as tracks
+use Rattle.plant_bodies.specs.declared.track_body.TrackBodyFault.TheVariants as tracks
 use Rattle.plant_bodies.specs.TrackRule as track
-use Rattle.plant_bodies.proofs.Interlocks.{length_interlocks}
+use Rattle.plant_bodies.specs.Rows.{interlock, link}
+use Rattle.plant_bodies.proofs.RowByRow.{length_rows}
+use Rattle.track.specs.declared.link.Link.{Link}
+use Rattle.track.specs.declared.link.TrackFault.{TrackFault}
+use Rattle.track.specs.declared.link.TrackFault.TheVariants.{Stations, Links, First, Second, Same}
+use Rattle.track.specs.Fault.{row_fault, rows_fault, before, fault}
 
 -- no fault, or one whose byte is at most this
 pub record AtMost {F : Type 0} (byte : F → ℕ) (m : ℕ) (o : Option F) : Type 0 where
@@ -80,39 +84,45 @@ bench_within v m ns ls h g =
     (λ _. passes (bench_byte v) m (ltb 32 (length ls)) bench.Interlocks _ (omega arith)
     (λ _. first_of v m (positions_fault ns 0) (interlocks_fault ns ls 0) (positions_within v m ns 0 (omega arith)) (interlocks_within v m ns ls 0 (omega arith))))
 
-mapped_bench : (v m : ℕ) (o : Option BenchFault) → AtMost (bench_byte v) m o → AtMost valves_byte m (option_map (Bench v) o)
-mapped_bench v m None h = at_none valves_byte m
-mapped_bench v m (Some f) h = at_some valves_byte m (Bench v f) (h.holds f refl)
+-- a fault that another carries
+mapped : {F G : Type 0} (byte : F → ℕ) (told : G → ℕ) (carry : F → G) (m : ℕ) → ((f : F) → told (carry f) ≡ byte f) → (o : Option F) → AtMost byte m o → AtMost told m (option_map carry o)
+mapped byte told carry m e None h = at_none told m
+mapped byte told carry m e (Some f) h = at_some told m (carry f) (omega (arith, e f, h.holds f refl))
 
 pub valves_within : (bs : List ℕ) → AtMost valves_byte (length bs) (valves_fault bs)
 valves_within bs =
     passes valves_byte (length bs) (not (eqb (length bs) (2 + (valves_in bs + 4 * interlock_count bs)))) valves.Length _ (omega arith)
     (λ e. let l : length bs ≡ 2 + (valves_in bs + 4 * interlock_count bs) = eqb-true (length bs) _ (not-false (eqb (length bs) _) e) in
-    let n : length (body_interlocks bs) ≡ interlock_count bs = length_interlocks (interlock_count bs) (drop (2 + valves_in bs) bs) in
+    let n : length (body_interlocks bs) ≡ interlock_count bs = length_rows interlock (interlock_count bs) (drop (2 + valves_in bs) bs) in
     let p : length (body_positions bs) ≤ valves_in bs = rw length-take (omega arith) in
-    mapped_bench (valves_in bs) (length bs) (bench_fault (body_positions bs) (body_interlocks bs))
+    mapped (bench_byte (valves_in bs)) valves_byte (Bench (valves_in bs)) (length bs) (λ f. refl) (bench_fault (body_positions bs) (body_interlocks bs))
     (bench_within (valves_in bs) (length bs) (body_positions bs) (body_interlocks bs) (omega arith) (omega arith)))
 
 -- tracks
-first_link : (m : ℕ) (o g : Option TrackFault) → AtMost track.track_byte m o → AtMost track.track_byte m g → AtMost track.track_byte m (track.either_fault o g)
+first_link : (m : ℕ) (o g : Option TrackFault) → AtMost track.link_byte m o → AtMost track.link_byte m g → AtMost track.link_byte m (before o g)
 first_link m None g p q = q
 first_link m (Some f) g p q = p
 
-link_within : (m n : ℕ) (l : track.Link) (k : ℕ) → 6 + 4 * k ≤ m → AtMost track.track_byte m (track.link_fault n l k)
+link_within : (m n : ℕ) (l : Link) (k : ℕ) → 6 + 4 * k ≤ m → AtMost track.link_byte m (row_fault n k l)
 link_within m n l k h =
-    passes track.track_byte m (leb n l.first) (tracks.First k) _ (omega arith)
-    (λ _. passes track.track_byte m (leb n l.second) (tracks.Second k) _ (omega arith)
-    (λ _. passes track.track_byte m (eqb l.second l.first) (tracks.Same k) None (omega arith) (λ _. at_none track.track_byte m)))
+    passes track.link_byte m (leb n l.one) (First k) _ (omega arith)
+    (λ _. passes track.link_byte m (leb n l.other) (Second k) _ (omega arith)
+    (λ _. passes track.link_byte m (eqb l.one l.other) (Same k) None (omega arith) (λ _. at_none track.link_byte m)))
 
-links_within : (m n : ℕ) (e : ℕ) (bs : List ℕ) (k : ℕ) → 4 + 4 * (k + e) ≤ m → AtMost track.track_byte m (track.links_fault n (track.links_in e bs) k)
-links_within m n zero bs k h = at_none track.track_byte m
-links_within m n (suc e) bs k h =
-    first_link m (track.link_fault n (track.link bs) k) (track.links_fault n (track.links_in e (drop 4 bs)) (suc k)) (link_within m n (track.link bs) k (omega arith)) (links_within m n e (drop 4 bs) (suc k) (omega arith))
+links_within : (m n : ℕ) (ls : List Link) (k : ℕ) → 4 + 4 * (k + length ls) ≤ m → AtMost track.link_byte m (rows_fault n k ls)
+links_within m n [] k h = at_none track.link_byte m
+links_within m n (l ∷ ls) k h =
+    first_link m (row_fault n k l) (rows_fault n (k + 1) ls) (link_within m n l k (omega arith)) (links_within m n ls (k + 1) (omega arith))
+
+track_data_within : (m n : ℕ) (ls : List Link) → 4 + 4 * length ls ≤ m → AtMost track.link_byte m (fault n ls)
+track_data_within m n ls h =
+    passes track.link_byte m (eqb n 0 || ltb 512 n) Stations _ (omega arith)
+    (λ _. passes track.link_byte m (ltb 1024 (length ls)) Links _ (omega arith) (λ _. links_within m n ls 0 (omega arith)))
 
 pub track_within : (bs : List ℕ) → AtMost track.track_byte (length bs) (track.track_fault bs)
 track_within bs =
     passes track.track_byte (length bs) (not (eqb (length bs) (4 + 4 * track.link_count bs))) tracks.Length _ (omega arith)
     (λ e. let l : length bs ≡ 4 + 4 * track.link_count bs = eqb-true (length bs) _ (not-false (eqb (length bs) _) e) in
-    passes track.track_byte (length bs) (ltb (track.stations_in bs) 1 || ltb 512 (track.stations_in bs)) tracks.Stations _ (omega arith)
-    (λ _. passes track.track_byte (length bs) (ltb 1024 (track.link_count bs)) tracks.Links _ (omega arith)
-    (λ _. links_within (length bs) (track.stations_in bs) (track.link_count bs) (drop 4 bs) 0 (omega arith))))
+    let n : length (track.body_links bs) ≡ track.link_count bs = length_rows link (track.link_count bs) (drop 4 bs) in
+    mapped track.link_byte track.track_byte tracks.Track (length bs) (λ f. refl) (fault (track.stations_in bs) (track.body_links bs))
+    (track_data_within (length bs) (track.stations_in bs) (track.body_links bs) (omega arith)))

@@ -1,3 +1,3 @@
 pub mod Numerals
-pub mod Pushes
+pub mod Room
 pub mod Examples

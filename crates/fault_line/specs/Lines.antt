@@ -1,20 +1,13 @@
 -- The line that tells a fault. Assumes nothing.
 use Rattle.std.specs.Prelude.{ℕ, zero, suc, ◌+◌, ◌/◌, ◌%◌, cond, List, [], ◌∷◌, ◌++◌, take, codes, nat_lt}
 use Rattle.faults.specs.declared.fault.FileFault.{FileFault}
-use Rattle.faults.specs.declared.fault.Layer.{Layer}
-use Rattle.faults.specs.declared.fault.Layer.TheVariants.{File, Contents, Body, Sheet}
 use Rattle.faults.specs.Told.{layer_of, number_of, byte_of}
+use Rattle.faults.specs.Shown.{layer_word}
 use Rattle.fault_line.specs.declared.line.Line.{Line}
 
 -- what a line holds
 abbrev pub written : Line → List ℕ
 written l = take l.end l.bytes
-
-abbrev pub layer_word : Layer → List ℕ
-layer_word File = codes "file"
-layer_word Contents = codes "contents"
-layer_word Body = codes "body"
-layer_word Sheet = codes "sheet"
 
 -- the digits of a number, at most so many
 abbrev pub digits : ℕ → ℕ → List ℕ

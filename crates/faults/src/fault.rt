@@ -2,7 +2,7 @@
 use bodies::job::JobFault;
 use bodies::steps::StepsFault;
 use plant_bodies::bench_body::ValvesFault;
-use plant_bodies::track_body::TrackFault;
+use plant_bodies::track_body::TrackBodyFault;
 
 // A fault of the head or of the contents.
 #[derive(Clone, Copy, PartialEq, Eq, Debug)]
@@ -23,7 +23,7 @@ pub enum ContentsFault {
 #[derive(Clone, Copy, PartialEq, Eq, Debug)]
 pub enum BodyFault {
     Valves { place: u16, fault: ValvesFault },
-    Track { place: u16, fault: TrackFault },
+    Track { place: u16, fault: TrackBodyFault },
     Job { place: u16, fault: JobFault },
     Steps { place: u16, fault: StepsFault },
 }
@@ -44,8 +44,8 @@ pub enum FileFault {
 // Where a fault lies.
 #[derive(Clone, Copy, PartialEq, Eq, Debug)]
 pub enum Layer {
-    File,
-    Contents,
-    Body,
-    Sheet,
+    File = 1,
+    Contents = 2,
+    Body = 3,
+    Sheet = 4,
 }

@@ -2,4 +2,5 @@
 #![tactic(auto)]
 
 pub mod fault;
+mod shown;
 pub mod told;

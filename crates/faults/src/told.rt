@@ -3,14 +3,15 @@ ghost use Rattle.std.specs.Prelude.{◌≡◌};
 ghost use Rattle.bodies.specs.JobRule.{job_byte};
 ghost use Rattle.bodies.specs.StepsRule.{steps_byte};
 ghost use Rattle.plant_bodies.specs.BenchRule.{bench_byte, valves_byte};
-ghost use Rattle.plant_bodies.specs.TrackRule.{track_byte};
+ghost use Rattle.plant_bodies.specs.TrackRule.{link_byte, track_byte};
 ghost use Rattle.faults.specs.Told.{layer_code, layer_of, number_of, contents_number, contents_byte, body_byte, byte_of};
 
 use crate::fault::{BodyFault, ContentsFault, FileFault, Layer};
 use bodies::job::JobFault;
 use bodies::steps::StepsFault;
 use plant_bodies::bench_body::ValvesFault;
-use plant_bodies::track_body::TrackFault;
+use plant_bodies::track_body::TrackBodyFault;
+use track::link::TrackFault;
 use valves::fault::BenchFault;
 
 impl Layer {
@@ -18,12 +19,7 @@ impl Layer {
     pub fn code(self) -> u8
         ensures { result ≡ layer_code self }
     {
-        match self {
-            Layer::File => 1,
-            Layer::Contents => 2,
-            Layer::Body => 3,
-            Layer::Sheet => 4,
-        }
+        self as u8
     }
 }
 
@@ -81,16 +77,25 @@ fn valves_byte(fault: ValvesFault) -> u32
 }
 
 // Where in the body of a track the wrong field begins: of the two stations of a link that are one, the later.
-fn track_byte(fault: TrackFault) -> u32
-    ensures { result ≡ track_byte fault }
+fn link_byte(fault: TrackFault) -> u32
+    ensures { result ≡ link_byte fault }
 {
     match fault {
-        TrackFault::Length => 0,
         TrackFault::Stations => 0,
         TrackFault::Links => 2,
         TrackFault::First(link) => 4 + 4 * link as u32,
         TrackFault::Second(link) => 6 + 4 * link as u32,
         TrackFault::Same(link) => 6 + 4 * link as u32,
+    }
+}
+
+// Where in the body of a track the wrong field begins; of a wrong length, the body.
+fn track_byte(fault: TrackBodyFault) -> u32
+    ensures { result ≡ track_byte fault }
+{
+    match fault {
+        TrackBodyFault::Length => 0,
+        TrackBodyFault::Track(fault) => link_byte(fault),
     }
 }
 
@@ -136,11 +141,11 @@ impl FileFault {
         ensures { result ≡ layer_of self }
     {
         match self {
-            FileFault::TooShort { end: _ } => Layer::File,
-            FileFault::TooLong { end: _ } => Layer::File,
+            FileFault::TooShort { .. } => Layer::File,
+            FileFault::TooLong { .. } => Layer::File,
             FileFault::Contents(_) => Layer::Contents,
             FileFault::Body(_) => Layer::Body,
-            FileFault::ShortSheet { end: _ } => Layer::Sheet,
+            FileFault::ShortSheet { .. } => Layer::Sheet,
         }
     }
 
@@ -148,11 +153,11 @@ impl FileFault {
         ensures { result ≡ number_of self }
     {
         match self {
-            FileFault::TooShort { end: _ } => 10,
-            FileFault::TooLong { end: _ } => 10,
+            FileFault::TooShort { .. } => 10,
+            FileFault::TooLong { .. } => 10,
             FileFault::Contents(fault) => fault.number(),
             FileFault::Body(_) => 12,
-            FileFault::ShortSheet { end: _ } => 13,
+            FileFault::ShortSheet { .. } => 13,
         }
     }
 

@@ -1,5 +1,5 @@
 -- A number in a field of a list of bytes, byte by byte. Assumes nothing.
-use Rattle.std.proofs.Common.{◌≡◌, ℕ, zero, suc, ◌+◌, ◌*◌, List, [], ◌∷◌, length, get_or, take, drop, refl, ap, arith, take_all}
+use Rattle.std.proofs.Common.{◌≡◌, ℕ, zero, suc, ◌+◌, ◌*◌, List, [], ◌∷◌, get_or, take, drop, refl, arith}
 use Rattle.numbers.specs.Low.{value}
 
 pub value_take_nil : (k : ℕ) → value (take k []) ≡ 0
@@ -34,7 +34,3 @@ field_8 n bs =
       value_at (suc (suc n)) bs 1,
       value_at (suc (suc (suc n))) bs 0,
     )
-
--- a list of just these bytes
-pub value_whole : (k : ℕ) (bs : List ℕ) → length bs ≡ k → value (take k (drop 0 bs)) ≡ value bs
-value_whole k bs h = ap value (take_all k bs (omega arith))

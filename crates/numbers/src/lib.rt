@@ -16,24 +16,23 @@ pub fn write_number(part: &mut [u8], number: u64)
 }
 
 // The number in two bytes.
+// Stays: three functions and no generic one, since the type of the result could not be told from the number of bytes.
 pub fn word(first: u8, second: u8) -> u16
     ensures { result ≡ value (first ∷ second ∷ []) }
 {
-    first as u16 + 256 * second as u16
+    u16::from_le_bytes([first, second])
 }
 
 // The number in four bytes.
 pub fn double(bytes: [u8; 4]) -> u32
     ensures { result ≡ value bytes }
 {
-    let [a, b, c, d] = bytes;
-    word(a, b) as u32 + 65536 * word(c, d) as u32
+    u32::from_le_bytes(bytes)
 }
 
 // The number in eight bytes.
 pub fn quad(bytes: [u8; 8]) -> u64
     ensures { result ≡ value bytes }
 {
-    let [a, b, c, d, e, f, g, h] = bytes;
-    double([a, b, c, d]) as u64 + 4294967296 * double([e, f, g, h]) as u64
+    u64::from_le_bytes(bytes)
 }

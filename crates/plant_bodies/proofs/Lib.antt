@@ -1,6 +1,3 @@
-pub mod FourByFour
-pub mod Interlocks
-pub mod Positions
-pub mod Links
+pub mod RowByRow
 pub mod Benches
 pub mod Tracks

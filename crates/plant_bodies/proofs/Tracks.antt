@@ -1,30 +1,28 @@
--- The checks of a track's body in their order. Assumes nothing.
-use Rattle.std.proofs.Common.{◌≡◌, ℕ, ◌+◌, ◌-◌, ◌*◌, ◌≤◌, false, cond, not, ◌||◌, eqb, ltb, List, length, take, drop, Some, Option, sym, ap, ◌∙◌}
-use Rattle.std.proofs.lemmas.List.{take_rest}
-use Rattle.std.proofs.lemmas.Bool.{le-ltb, or_from, eq-eqb}
-use Rattle.plant_bodies.specs.declared.track_body.TrackFault.{TrackFault}
-use Rattle.plant_bodies.specs.declared.track_body.TrackFault.TheVariants.{Length, Stations, Links}
-use Rattle.plant_bodies.specs.TrackRule.{links_in, links_fault, stations_in, link_count, track_fault}
+-- The checks of a track's body, where one link more than a track has is read at most. Assumes nothing.
+use Rattle.std.proofs.Common.{◌≡◌, ℕ, ◌<◌, cond, not, ◌||◌, eqb, ltb, List, length, take, Some, sym, ap, ◌∙◌, inl, inr, arith, take_all}
+use Rattle.std.specs.Option.{option_map}
+use Rattle.std.proofs.lemmas.List.{length-take-le}
+use Rattle.std.proofs.lemmas.Bool.{cases_lt, cond-true, lt-ltb}
+use Rattle.track.specs.declared.link.Link.{Link}
+use Rattle.track.specs.declared.link.TrackFault.TheVariants as track
+use Rattle.track.specs.Fault.{fault}
+use Rattle.plant_bodies.specs.declared.track_body.TrackBodyFault.TheVariants.{Length, Track}
+use Rattle.plant_bodies.specs.TrackRule.{stations_in, body_links, TrackSays, track_fault}
 
--- the checks of a body with these counts
-checks : ℕ → ℕ → ℕ → Option TrackFault → Option TrackFault
-checks l n m o =
-    cond (not (eqb l (4 + 4 * m))) (Some Length) (cond (ltb n 1 || ltb 512 n) (Some Stations) (cond (ltb 1024 m) (Some Links) o))
+-- too many links are told by their number
+many : (n : ℕ) (ls : List Link) → 1024 < length ls → fault n ls ≡ cond (eqb n 0 || ltb 512 n) (Some track.Stations) (Some track.Links)
+many n ls h = ap (cond (eqb n 0 || ltb 512 n) (Some track.Stations)) (cond-true (ltb 1024 (length ls)) (Some track.Links) _ (lt-ltb 1024 (length ls) h))
 
-checks_pass : (l n m : ℕ) (o : Option TrackFault) → l ≡ 4 + 4 * m → 1 ≤ n → n ≤ 512 → m ≤ 1024 → o ≡ checks l n m o
-unfolding checks
-checks_pass l n m o e a b d =
-    let w : (ltb n 1 || ltb 512 n) ≡ false = or_from (ltb n 1) (ltb 512 n) (le-ltb n 1 a) (le-ltb 512 n b) in
-    sym (ap (λ c. cond (not c) (Some Length) (cond (ltb n 1 || ltb 512 n) (Some Stations) (cond (ltb 1024 m) (Some Links) o))) (eq-eqb l (4 + 4 * m) e)
-    ∙ (ap (λ c. cond c (Some Stations) (cond (ltb 1024 m) (Some Links) o)) w
-    ∙ ap (λ c. cond c (Some Links) o) (le-ltb 1024 m d)))
+-- so the first 1,025 have the fault of all
+pub first_enough : (n : ℕ) (ls : List Link) → fault n (take 1025 ls) ≡ fault n ls
+first_enough n ls =
+    elim (cases_lt 1024 (length ls)) [
+      | inl more ↦ let long : 1024 < length (take 1025 ls) = omega (arith, length-take-le 1025 ls (omega arith)) in many n (take 1025 ls) long ∙ sym (many n ls more)
+      | inr few ↦ ap (fault n) (take_all 1025 ls (omega arith))
+    ]
 
--- once length and counts are right
-pub track_links : (bs : List ℕ) (n m : ℕ) (o : Option TrackFault) → n ≡ stations_in bs → m ≡ link_count bs → length bs ≡ 4 + 4 * m → 1 ≤ n → n ≤ 512 → m ≤ 1024 →
-    o ≡ links_fault n (links_in m (take (length bs - 4) (drop 4 bs))) 0 → o ≡ track_fault bs
-unfolding checks
-track_links bs n m o p q e a b d g =
-    g ∙ (ap (λ r. links_fault n (links_in m r) 0) (take_rest bs 4)
-    ∙ (checks_pass (length bs) n m (links_fault n (links_in m (drop 4 bs)) 0) e a b d
-    ∙ (ap (λ k. checks (length bs) k m (links_fault k (links_in m (drop 4 bs)) 0)) p
-    ∙ ap (λ k. checks (length bs) (stations_in bs) k (links_fault (stations_in bs) (links_in k (drop 4 bs)) 0)) q)))
+-- the fault of the parts is that of the body
+pub said_fault : (bs : List ℕ) (n : ℕ) (ls : List Link) → TrackSays bs n ls → option_map Track (fault n ls) ≡ track_fault bs
+said_fault bs n ls s =
+    ap (option_map Track) (ap (λ k. fault k ls) s.stations ∙ (ap (fault (stations_in bs)) s.links ∙ first_enough (stations_in bs) (body_links bs)))
+    ∙ sym (ap (λ b. cond (not b) (Some Length) (option_map Track (fault (stations_in bs) (body_links bs)))) s.long)

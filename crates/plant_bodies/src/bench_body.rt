@@ -1,9 +1,20 @@
-// What is wrong first with the body of a valve bench.
-ghost use Rattle.std.specs.Prelude.{◌≡◌, ◌*◌, ◌≤◌, length};
-ghost use Rattle.valves.specs.Faults.{bench_fault, positions_fault, interlock_fault, interlocks_fault};
-ghost use Rattle.plant_bodies.specs.BenchRule.{interlock, interlocks_in, valves_fault};
+// The body of a valve bench: taken apart, and what is wrong with it first.
+ghost use Rattle.std.specs.Prelude.{◌≡◌, false, Some, None};
+ghost use Rattle.plant_bodies.specs.BenchRule.{bench_long, BenchSays, valves_fault};
 
+use crate::rows::read_rows;
+use arrayvec::ArrayVec;
+use valves::check::first_fault;
 use valves::fault::BenchFault;
+use valves::interlock::Interlock;
+
+// The numbers of positions and the interlocks. One interlock more than a bench can have is read at most, so that too
+// many are told from enough.
+#[derive(Drop)]
+pub struct BenchBody<'a> {
+    pub positions: &'a [u8],
+    pub interlocks: ArrayVec<Interlock, 33>,
+}
 
 #[derive(Clone, Copy, PartialEq, Eq, Debug)]
 pub enum ValvesFault {
@@ -13,96 +24,39 @@ pub enum ValvesFault {
     Bench { valves: u8, fault: BenchFault },
 }
 
-// The first valve whose number of positions is none.
-fn positions_fault(positions: &[u8]) -> Option<BenchFault>
-    requires { length positions.now ≤ 12 }
-    ensures { result ≡ positions_fault positions.now 0 }
-{
-    for (valve, number) in positions.iter().enumerate() {
-        if *number < 2 || *number > 4 {
-            return Some(BenchFault::Positions(valve as u8));
-        }
-    }
-    None
-}
-
-// The first field of the interlock in this row that is wrong.
-fn interlock_fault(positions: &[u8], fields: [u8; 4], row: u8) -> Option<BenchFault>
-    ensures { result ≡ interlock_fault positions.now (interlock fields) row }
-{
-    let [valve, position, other, stands] = fields;
-    if valve as usize >= positions.len() {
-        return Some(BenchFault::Valve(row));
-    }
-    if position >= positions[valve as usize] {
-        return Some(BenchFault::Position(row));
-    }
-    if other as usize >= positions.len() {
-        return Some(BenchFault::Other(row));
-    }
-    if other == valve {
-        return Some(BenchFault::Same(row));
-    }
-    if stands >= positions[other as usize] {
-        return Some(BenchFault::Stands(row));
-    }
-    None
-}
-
-// The first fault of so many interlocks, four bytes each.
-fn interlocks_fault(positions: &[u8], count: u8, interlocks: &[u8]) -> Option<BenchFault>
-    requires { 4 * count ≤ length interlocks.now }
-    ensures { result ≡ interlocks_fault positions.now (interlocks_in count interlocks.now) 0 }
-{
-    let mut rest = interlocks;
-    for row in 0..count {
-        let [valve, position, other, stands, after @ ..] = rest else {
-            return unreachable();
+impl<'a> BenchBody<'a> {
+    // Takes the body of a valve bench apart; none where it is not as long as its counts of valves and interlocks say.
+    pub fn of(body: &'a [u8]) -> Option<BenchBody<'a>>
+        ensures { elim result [ Some b ↦ BenchSays body.now b.positions.now b.interlocks.items | None ↦ bench_long body.now ≡ false ] }
+    {
+        let [valves, count, rest @ ..] = body else {
+            return None;
         };
-        match interlock_fault(positions, [*valve, *position, *other, *stands], row) {
-            Some(fault) => return Some(fault),
-            None => {}
+        let split = *valves as usize;
+        let end = split + 4 * *count as usize;
+        if rest.len() != end {
+            return None;
         }
-        rest = after;
+        let (positions, rows) = rest.split_at(split);
+        let mut interlocks = ArrayVec::new();
+        read_rows(&mut interlocks, rows);
+        Some(BenchBody {
+            positions,
+            interlocks,
+        })
     }
-    None
-}
-
-// The first fault of a bench with these numbers of positions and so many interlocks.
-fn bench_fault(positions: &[u8], count: u8, interlocks: &[u8]) -> Option<BenchFault>
-    requires { 4 * count ≤ length interlocks.now }
-    ensures { result ≡ bench_fault positions.now (interlocks_in count interlocks.now) }
-{
-    if positions.len() < 1 || positions.len() > 12 {
-        return Some(BenchFault::Valves);
-    }
-    if count > 32 {
-        return Some(BenchFault::Interlocks);
-    }
-    match positions_fault(positions) {
-        Some(fault) => return Some(fault),
-        None => {}
-    }
-    interlocks_fault(positions, count, interlocks)
 }
 
 // The first fault of the body of a valve bench: its length, then the bench's first fault.
 pub fn valves_fault(body: &[u8]) -> Option<ValvesFault>
     ensures { result ≡ valves_fault body.now }
 {
-    let [valves, count, rest @ ..] = body else {
+    let Some(bench) = BenchBody::of(body) else {
         return Some(ValvesFault::Length);
     };
-    let split = *valves as usize;
-    let end = split + 4 * *count as usize;
-    if rest.len() != end {
-        return Some(ValvesFault::Length);
-    }
-    match bench_fault(&rest[0..split], *count, &rest[split..end]) {
-        Some(fault) => Some(ValvesFault::Bench {
-            valves: *valves,
-            fault,
-        }),
-        None => None,
-    }
+    let fault = first_fault(bench.positions, &bench.interlocks)?;
+    Some(ValvesFault::Bench {
+        valves: bench.positions.len() as u8,
+        fault,
+    })
 }

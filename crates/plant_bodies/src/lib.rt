@@ -2,4 +2,5 @@
 #![tactic(auto)]
 
 pub mod bench_body;
+pub mod rows;
 pub mod track_body;

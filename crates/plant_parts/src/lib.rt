@@ -2,4 +2,5 @@
 #![tactic(auto)]
 
 pub mod bench_parts;
+mod bytes;
 pub mod track_parts;

@@ -1,18 +1,14 @@
 -- The track that a body describes, and what making it answers. Assumes nothing.
-use Rattle.std.specs.Prelude.{◌≡◌, ℕ, true, List, map, is_some, Some, None, Option}
+use Rattle.std.specs.Prelude.{◌≡◌, ℕ, true, List, is_some, Some, None, Option}
 use Rattle.plant.specs.Meaning.{Meaning}
 use Rattle.track.specs.declared.link.Link.{Link}
 use Rattle.track.specs.declared.track.Track.{Track}
 use Rattle.track.specs.Track.{track, links_of, meaning_of}
 use Rattle.plant_bodies.specs.TrackRule.{stations_in, body_links, track_fault}
-use Rattle.plant_bodies.specs.TrackRule as rule
 
--- a link of a body as a link of a track
-abbrev pub laid : rule.Link → Link
-laid l = record { one = l.first; other = l.second }
-
+-- the links of a body are those of its track
 abbrev pub track_links : List ℕ → List Link
-track_links bs = map laid (body_links bs)
+track_links bs = body_links bs
 
 -- the plant that the bytes of a body describe
 abbrev pub track_described : List ℕ → Meaning

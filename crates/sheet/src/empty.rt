@@ -7,6 +7,9 @@ use crate::refusal::SheetRefusal;
 use crate::states::{EmptySheet, OpenSheet};
 use crate::write::write_head;
 
+// The most bodies of a sheet.
+const BODIES: usize = 64;
+
 impl EmptySheet {
     // There is one empty sheet: it holds nothing.
     pub fn new() -> EmptySheet
@@ -23,7 +26,7 @@ impl EmptySheet {
         ensures bytes { buffer.new ≡ unless (open_refusal bodies (length buffer.old)) buffer.old (opened_bytes bodies buffer.old) }
         ensures written { IfOk result (λ s. Written (state s) buffer.new [] (drop (2 + 4 * bodies) buffer.old)) }
     {
-        if bodies > 64 {
+        if bodies > BODIES {
             return Err(SheetRefusal::Contents);
         }
         let end = 2 + 4 * bodies;

@@ -8,38 +8,41 @@ use crate::refusal::SheetRefusal;
 use crate::states::{ClosedSheet, NotClosed, OpenSheet};
 use crate::write::{write_body, write_row};
 
+// The most operations of a body.
+const OPERATIONS: usize = 255;
+
 // Whether an answer, a count and so many operations make a body.
 fn keeps_rule(answer: u8, count: u64, operations: usize) -> bool
     ensures { result ≡ go_together answer count operations }
 {
     match answer {
-        0 => operations <= 255,
+        0 => operations <= OPERATIONS,
         4..=7 => count == 0 && operations == 0,
         _ => false,
     }
 }
 
 impl OpenSheet {
-    // Why a body of so many operations cannot be put on a buffer of so many bytes.
-    fn refusal(
+    // Refuses a body of so many operations that cannot be put on a buffer of so many bytes.
+    fn check(
         &self,
         room: usize,
         answer: u8,
         count: u64,
         operations: usize,
-    ) -> Option<SheetRefusal>
-        ensures { result ≡ put_refusal_by (state self.now) (go_together answer count operations) operations room }
+    ) -> Result<(), SheetRefusal>
+        ensures { result_err result ≡ put_refusal_by (state self.now) (go_together answer count operations) operations room }
     {
         if !keeps_rule(answer, count, operations) {
-            return Some(SheetRefusal::Body);
+            return Err(SheetRefusal::Body);
         }
         if self.filled >= self.declared {
-            return Some(SheetRefusal::OverCount);
+            return Err(SheetRefusal::OverCount);
         }
         if room < self.end + (10 + 2 * operations) {
-            return Some(SheetRefusal::ShortSheet);
+            return Err(SheetRefusal::ShortSheet);
         }
-        None
+        Ok(())
     }
 
     // Writes a body straight behind the one before and fills its row. Refuses a body that breaks its rule, then one
@@ -56,19 +59,15 @@ impl OpenSheet {
         ensures bytes { buffer.new ≡ unless (result_err result) buffer.old (put_bytes (state self.old) (steps answer count operations.now) buffer.old) }
         ensures written { GoesOn (result_err result) (state self.old) (state self.new) (steps answer count operations.now) buffer.old buffer.new }
     {
-        match self.refusal(buffer.len(), answer, count, operations.len()) {
-            Some(refusal) => Err(refusal),
-            None => {
-                let length = 10 + 2 * operations.len();
-                let end = self.end;
-                let row = 2 + 4 * self.filled as usize;
-                write_body(&mut buffer[end..end + length], answer, count, operations);
-                write_row(&mut buffer[row..row + 4], length);
-                self.filled += 1;
-                self.end = end + length;
-                Ok(())
-            }
-        }
+        self.check(buffer.len(), answer, count, operations.len())?;
+        let length = 10 + 2 * operations.len();
+        let end = self.end;
+        let row = 2 + 4 * self.filled as usize;
+        write_body(&mut buffer[end..end + length], answer, count, operations);
+        write_row(&mut buffer[row..row + 4], length);
+        self.filled += 1;
+        self.end = end + length;
+        Ok(())
     }
 
     // Closes the sheet; with bodies missing the open sheet is handed back.

@@ -5,15 +5,15 @@ ghost use Rattle.sheet.specs.Refusals.{number};
 #[derive(Clone, Copy, PartialEq, Eq, Debug)]
 pub enum SheetRefusal {
     // more bodies declared than a sheet can have
-    Contents,
+    Contents = 11,
     // the body breaks its rule
-    Body,
+    Body = 12,
     // the buffer is too short
-    ShortSheet,
+    ShortSheet = 13,
     // all declared bodies are there already
-    OverCount,
+    OverCount = 15,
     // closed with bodies missing
-    UnderCount,
+    UnderCount = 16,
 }
 
 impl SheetRefusal {
@@ -21,12 +21,6 @@ impl SheetRefusal {
     pub fn code(self) -> u8
         ensures { result ≡ number self }
     {
-        match self {
-            SheetRefusal::Contents => 11,
-            SheetRefusal::Body => 12,
-            SheetRefusal::ShortSheet => 13,
-            SheetRefusal::OverCount => 15,
-            SheetRefusal::UnderCount => 16,
-        }
+        self as u8
     }
 }

@@ -14,6 +14,7 @@ pub(crate) fn write_operations(part: &mut [u8], operations: &[u16])
     requires { length part.old ≡ 2 * length operations.now }
     ensures { part.new ≡ words operations.now }
 {
+    // Stays: after a loop over `chunks_exact_mut` the length of the part is known, and nothing of its elements.
     for (i, operation) in operations.iter().enumerate() {
         write_number(&mut part[2 * i..2 * i + 2], *operation as u64);
     }

@@ -1,6 +1,6 @@
 // A link between two stations, and what can be wrong with a track.
 
-#[derive(Clone, Copy, PartialEq, Eq, Debug)]
+#[derive(Clone, Copy, PartialEq, Eq, Debug, Default)]
 pub struct Link {
     pub one: u16,
     pub other: u16,

@@ -1,17 +1,18 @@
--- The parts of the body are those that its counts say.
-use Rattle.std.proofs.Common.{◌≡◌, ◌+◌, ◌-◌, ◌*◌, length, ◌∙◌, arith, ltb-false}
-use Rattle.plant_bodies.specs.BenchRule.{valves_in, interlock_count}
-use Rattle.plant_bodies.proofs.Benches.{body_past_length, body_parts, whole_length}
+-- The bench's fault is that of its body.
+use Rattle.std.proofs.Common.{Some, ap, ◌∙◌}
+use Rattle.std.specs.Option.{option_map}
+use Rattle.valves.specs.Faults.{bench_fault}
+use Rattle.plant_bodies.specs.declared.bench_body.ValvesFault.TheVariants.{Bench}
+use Rattle.plant_bodies.specs.BenchRule.{valves_in}
+use Rattle.plant_bodies.proofs.Benches.{said_fault, said_valves}
 use Rattle.plant_bodies.proofs.bench_body.valves_fault.Goals as goal
 
-pub returns-in-Some : goal.returns-in-Some
-returns-in-Some c =
-    let e : length c.args.body.now ≡ 2 + (valves_in c.args.body.now + 4 * interlock_count c.args.body.now) = whole_length c.args.body.now 2 _ (omega (arith, ltb-false)) c.if-rest-end.false in
-    body_past_length c.args.body.now _ e
-    (c.in-Some.ensures ∙ body_parts c.args.body.now (valves_in c.args.body.now) (interlock_count c.args.body.now) (valves_in c.args.body.now - 0) ((valves_in c.args.body.now + 4 * interlock_count c.args.body.now) - valves_in c.args.body.now) e (omega arith) (omega arith))
+pub returns-in_err-fault : goal.returns-in_err-fault
+returns-in_err-fault c =
+    c.from_residual.ensures
+    ∙ (ap (option_map (Bench (valves_in c.args.body.now))) (c.in_err-fault.ensures.exact ∙ ap (bench_fault c.in-Some.bench.positions.now) c.deref.ensures.0) ∙ said_fault c.args.body.now _ _ c.in-Some.ensures)
 
-pub returns-in-None : goal.returns-in-None
-returns-in-None c =
-    let e : length c.args.body.now ≡ 2 + (valves_in c.args.body.now + 4 * interlock_count c.args.body.now) = whole_length c.args.body.now 2 _ (omega (arith, ltb-false)) c.if-rest-end.false in
-    body_past_length c.args.body.now _ e
-    (c.in-None.ensures ∙ body_parts c.args.body.now (valves_in c.args.body.now) (interlock_count c.args.body.now) (valves_in c.args.body.now - 0) ((valves_in c.args.body.now + 4 * interlock_count c.args.body.now) - valves_in c.args.body.now) e (omega arith) (omega arith))
+pub returns : goal.returns
+returns c =
+    ap (λ v. Some (Bench v c.in_ok-fault.fault)) (said_valves c.args.body.now _ _ c.in-Some.ensures)
+    ∙ (ap (option_map (Bench (valves_in c.args.body.now))) (c.in_ok-fault.ensures.exact ∙ ap (bench_fault c.in-Some.bench.positions.now) c.deref.ensures.0) ∙ said_fault c.args.body.now _ _ c.in-Some.ensures)

@@ -1,11 +1,14 @@
--- Once length and counts are right, the links give the answer.
-use Rattle.std.proofs.Common.{arith, ltb-false}
-use Rattle.numbers.proofs.Fields.{field_2}
-use Rattle.plant_bodies.proofs.Benches.{whole_length}
-use Rattle.plant_bodies.proofs.Tracks.{track_links}
+-- The track's fault is that of its body.
+use Rattle.std.proofs.Common.{ap, ◌∙◌}
+use Rattle.std.specs.Option.{option_map}
+use Rattle.track.specs.Fault.{fault}
+use Rattle.plant_bodies.specs.declared.track_body.TrackBodyFault.TheVariants.{Track}
+use Rattle.plant_bodies.proofs.Tracks.{said_fault}
 use Rattle.plant_bodies.proofs.track_body.track_fault.Goals as goal
 
+pub returns-in_err-fault : goal.returns-in_err-fault
+returns-in_err-fault c =
+    c.from_residual.ensures ∙ (ap (option_map Track) (c.in_err-fault.ensures.exact ∙ ap (fault c.in-Some.track.stations) c.deref.ensures.0) ∙ said_fault c.args.body.now _ _ c.in-Some.ensures)
+
 pub returns : goal.returns
-returns c =
-    track_links c.args.body.now c.word-stations.result c.word-count.result _ (omega (arith, field_2 0 c.args.body.now)) (omega (arith, field_2 2 c.args.body.now))
-    (whole_length c.args.body.now 4 _ (omega (arith, ltb-false)) c.if-links-count.false) (omega arith) (omega arith) (omega arith) c.links_fault.ensures
+returns c = ap (option_map Track) (c.in_ok-fault.ensures.exact ∙ ap (fault c.in-Some.track.stations) c.deref.ensures.0) ∙ said_fault c.args.body.now _ _ c.in-Some.ensures

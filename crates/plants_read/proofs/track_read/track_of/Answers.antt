@@ -1,15 +1,12 @@
--- A body without a fault has the parts of a track without one.
-use Rattle.plants_read.proofs.TrackBodies.{links_held, track_of_parts, track_parts_faultless}
+-- The parts of the body make its track, where they have no fault.
+use Rattle.std.proofs.Common.{sym, subst}
+use Rattle.plant_bodies.specs.TrackRule.{TrackSays}
+use Rattle.plants_read.specs.Tracks.{ReadsTrack}
+use Rattle.plants_read.proofs.TrackBodies.{read}
 use Rattle.plants_read.proofs.track_read.track_of.Goals as goal
 
-pub returns-in-Ok : goal.returns-in-Ok
-returns-in-Ok c =
+pub returns : goal.returns
+returns c =
     let bs = c.args.body.now in
-    track_of_parts bs _ _ c.in-Ok.track c.in-None.ensures c.stations.ensures
-    (links_held bs c.links-count.result c.held_links-held.result c.in-None.ensures c.links-count.ensures c.held_links-held.ensures) c.in-Ok.ensures
-
-pub returns-in-Err : goal.returns-in-Err
-returns-in-Err c =
-    let bs = c.args.body.now in
-    absurd (track_parts_faultless bs _ _ c.in-Err.field-0 c.in-None.ensures c.stations.ensures
-    (links_held bs c.links-count.result c.held_links-held.result c.in-None.ensures c.links-count.ensures c.held_links-held.ensures) c.in-Err.ensures)
+    let says = subst (TrackSays bs c.in_ok-track.track.stations) (sym c.deref.ensures.0) c.in_ok-track.ensures in
+    subst (ReadsTrack bs) (sym c.ok.ensures.value) (read bs _ _ says c.new.result c.new.ensures)

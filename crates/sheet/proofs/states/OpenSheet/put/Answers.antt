@@ -7,15 +7,15 @@ use Rattle.sheet.proofs.Acceptance.{accepted_keeps, accepted_few, kept_sound, pu
 use Rattle.sheet.proofs.Growth.{written_more}
 use Rattle.sheet.proofs.states.OpenSheet.put.Goals as goal
 
-pub returns-in-None : goal.returns-in-None
-returns-in-None c =
+pub returns : goal.returns
+returns c =
     let s : State = state c.args.self.now in
     let b : Steps = steps c.args.answer c.args.count c.args.operations.now in
-    let few : s.filled < s.declared = accepted_few s _ _ _ c.in-None.ensures in
-    let good : sound b ≡ true = kept_sound b (accepted_keeps s _ _ _ c.in-None.ensures) (omega arith) (λ i. omega (arith, c.type_inv.operations i)) in
+    let few : s.filled < s.declared = accepted_few s _ _ _ c.in_ok-check.ensures in
+    let good : sound b ≡ true = kept_sound b (accepted_keeps s _ _ _ c.in_ok-check.ensures) (omega arith) (λ i. omega (arith, c.type_inv.operations i)) in
     let e = put_parts s b c.args.buffer.now _ _ _ _ _ c.write_body.ensures c.write_row.ensures refl (omega arith) (omega arith) in
     record {
-      refusal = c.in-None.ensures;
+      refusal = c.in_ok-check.ensures;
       sheet = refl;
       bytes = e;
       written = λ bs rest w. subst (λ (buffer : List ℕ). Written (put_state s b) buffer (bs ++ b ∷ []) (drop (body_length b) rest)) (sym e) (written_more s b c.args.buffer.now few good bs rest w);
