@@ -23,9 +23,8 @@ PATTERNS = [
     (1, "check that answers its fault as an option", r"(?m)^ *(?:pub\(crate\) )?fn \w*(?:fault|refusal)\w*(?:<[^(]*>)?\((?:(?!\bfn\b)[^{])*?-> Option<\w*(?:Fault|Refusal)>"),
     (1, "number for a kind, a way or a refusal", r"\b(?:kind|byte|way): u8\b|Result<[^;{}=]*, u8>"),
     (3, "while or loop", r"(?m)^ *(?:while|loop)\b"),
-    (3, "for over a range", r"(?m)^ *for \w+ in [^{\n]*\.\."),
-    (3, "for over enumerate", r"(?m)^ *for \(\w+, \w+\) in [^{\n]*\.enumerate\(\)"),
     (3, "loop that a library method does", r"for (\w+) in [^{\n]*\{\s*(?:if [^{]*\{\s*return (?:true|false);\s*\}|\*\1 = 0;|self\.push\(\*\1\);)\s*\}"),
+    (3, "rows taken off what is left, or counted beside the loop", r"let mut rest = \w+;|\b(?:count|row) [+-]= 1;"),
     (4, "number of an enum by a match", r"fn (?:code|kind_of)\b"),
     (4, "text of an enum or of an answer by a function", r"fn (?:text|tell|tell_count|refuse|layer_word)\b"),
     (4, "decimal by hand", r"fn push_decimal\b"),
@@ -70,6 +69,24 @@ def functions(text):
         yield m
 
 
+def block(text, at):
+    """The text between the brace at this place and its own."""
+    depth = 0
+    for i in range(at, len(text)):
+        depth += {"{": 1, "}": -1}.get(text[i], 0)
+        if depth == 0:
+            return text[at:i]
+    return text[at:]
+
+
+def counted(text):
+    """Loops over a range or by enumerate whose counter stands in an index."""
+    for m in re.finditer(r"(?m)^ *for (?:(\w+) in [^{\n]*\.\.[^{\n]*|\((\w+), \w+\) in [^{\n]*\.enumerate\(\)[^{\n]*)\{", text):
+        counter = m.group(1) or m.group(2)
+        if re.search(r"\w\[[^\]]*\b" + counter + r"\b|\.get\(" + counter + r"\b", block(text, m.end() - 1)):
+            yield m
+
+
 def main():
     args = [a for a in sys.argv[1:] if a != "-v"]
     verbose = "-v" in sys.argv
@@ -100,6 +117,7 @@ def main():
     for point, name, pattern in PATTERNS:
         if point in (3, 4):
             told(point, name, [place(f, m.start()) for f in files for m in re.finditer(pattern, texts[f])])
+    told(3, "for whose counter is an index", [place(f, m.start()) for f in files for m in counted(texts[f])])
     facts = collections.defaultdict(set)
     for f in files:
         crate = f.relative_to(top / "crates").parts[0]

@@ -16,12 +16,8 @@ pub(crate) struct Workspace {
 impl Workspace {
     // About 180 KiB, which the caller holds.
     pub(crate) fn new() -> Workspace {
-        let nothing = Relayed {
-            setting: 0,
-            relay: 0,
-        };
         Workspace {
-            records: [nothing; RECORDS],
+            records: [Relayed::default(); RECORDS],
             index: [0; INDEX],
         }
     }

@@ -1,10 +1,10 @@
 // Valve benches: steps, reverses, estimates and positions.
 use crate::samples::{
-    bench_a, bench_of, check_estimates, check_reverses, check_size, check_steps, largest_bench,
-    lock,
+    bench_of, check_estimates, check_reverses, check_size, check_steps, largest_bench, lock,
 };
 use plant::follow::follow;
 use plant::plant::Plant;
+use sample_plants::bench_a;
 use std::test::Fail;
 
 // The last setting of the largest bench.
@@ -42,7 +42,7 @@ const ESTIMATES: [(u32, [u16; 6]); 6] = [
 
 #[test]
 fn bench_a_steps(rt: HostRuntime) -> Result<(), Fail> {
-    let bench = bench_a()?;
+    let bench = bench_a();
     check_size(&rt, &bench, 6, 4);
     for (setting, row) in STEPS {
         for (operation, to) in (0..4u16).zip(row) {
@@ -64,7 +64,7 @@ fn bench_a_steps(rt: HostRuntime) -> Result<(), Fail> {
 
 #[test]
 fn bench_a_estimates(rt: HostRuntime) -> Result<(), Fail> {
-    let bench = bench_a()?;
+    let bench = bench_a();
     for (from, row) in ESTIMATES {
         for (to, estimate) in (0..6u32).zip(row) {
             assert_eq!(rt; bench.estimate(from, to), estimate, "from {from} to {to}");
@@ -76,7 +76,7 @@ fn bench_a_estimates(rt: HostRuntime) -> Result<(), Fail> {
 
 #[test]
 fn bench_a_positions_and_reverses(rt: HostRuntime) -> Result<(), Fail> {
-    let bench = bench_a()?;
+    let bench = bench_a();
     for (setting, one, other) in POSITIONS {
         assert_eq!(rt; bench.position(setting, 0), Some(one));
         assert_eq!(rt; bench.position(setting, 1), Some(other));
@@ -93,7 +93,7 @@ fn bench_a_positions_and_reverses(rt: HostRuntime) -> Result<(), Fail> {
 
 #[test]
 fn lists_on_bench_a(rt: HostRuntime) -> Result<(), Fail> {
-    let bench = bench_a()?;
+    let bench = bench_a();
     assert_eq!(rt; follow(&bench, 0, &[0, 2, 0, 3]), Some(2));
     assert_eq!(rt; follow(&bench, 2, &[2, 1, 3, 1]), Some(0), "the way back");
     assert_eq!(rt; follow(&bench, 0, &[0, 0]), None, "barred");

@@ -1,11 +1,12 @@
 // Pairs: both sides of one, pairs of pairs, and pairs that are too large.
 use crate::samples::{
-    Examples, bench_a, bench_and_ring, check_examples, check_size, check_steps, largest_bench,
-    link, ring, track_of, yard,
+    Examples, bench_and_ring, check_examples, check_size, check_steps, largest_bench, link,
+    track_of, yard,
 };
 use pair::pair::Pair;
 use plant::follow::follow;
 use plant::plant::Plant;
+use sample_plants::{bench_a, ring_with_spur};
 use std::process::Abort;
 use std::test::Fail;
 
@@ -13,7 +14,7 @@ use std::test::Fail;
 // rows are out of range.
 #[test]
 fn both_sides_of_a_pair(rt: HostRuntime) -> Result<(), Fail> {
-    let pair = bench_and_ring()?;
+    let pair = bench_and_ring();
     let first = [
         (0, 0, Some(1)),
         (1, 0, None),
@@ -52,7 +53,7 @@ fn both_sides_of_a_pair(rt: HostRuntime) -> Result<(), Fail> {
 
 #[test]
 fn parts_of_a_pair(rt: HostRuntime) -> Result<(), Fail> {
-    let pair = bench_and_ring()?;
+    let pair = bench_and_ring();
     assert_eq!(rt; pair.split(26), Some((2, 4)));
     assert_eq!(rt; pair.split(29), Some((5, 4)));
     assert_eq!(rt; pair.split(30), None);
@@ -79,10 +80,10 @@ fn check_bench_and_two_rings<P: Plant>(rt: &impl Abort, plant: &P) {
 
 #[test]
 fn pairs_of_pairs(rt: HostRuntime) -> Result<(), Fail> {
-    let inner = Pair::new(bench_and_ring()?, ring()?);
+    let inner = Pair::new(bench_and_ring(), ring_with_spur());
     check_bench_and_two_rings(&rt, &inner);
     assert_eq!(rt; inner.split(149), Some((29, 4)));
-    let outer = Pair::new(bench_a()?, Pair::new(ring()?, ring()?));
+    let outer = Pair::new(bench_a(), Pair::new(ring_with_spur(), ring_with_spur()));
     check_bench_and_two_rings(&rt, &outer);
     assert_eq!(rt; outer.split(149), Some((5, 24)));
     Ok(())
@@ -144,6 +145,6 @@ fn too_many_operations(rt: HostRuntime) -> Result<(), Fail> {
     let over = Pair::new(most, track_of(2, &[link(0, 1)])?);
     check_too_large(&rt, &over);
     // a pair with one that is too large
-    check_size(&rt, &Pair::new(over, ring()?), 5, 5);
+    check_size(&rt, &Pair::new(over, ring_with_spur()), 5, 5);
     Ok(())
 }

@@ -1,6 +1,7 @@
 // The plants of the tests, and checks of any plant against a table.
 use pair::pair::Pair;
 use plant::plant::Plant;
+use sample_plants::{bench_a, ring_with_spur};
 use std::process::Abort;
 use std::test::Fail;
 use track::link::Link;
@@ -21,11 +22,6 @@ pub(crate) fn bench_of(positions: &[u8], interlocks: &[Interlock]) -> Result<Ben
     Ok(Bench::new(positions, interlocks)?)
 }
 
-// Two valves of 3 and 2 positions; valve 0 may not move into or out of position 2 while valve 1 stands at 0.
-pub(crate) fn bench_a() -> Result<Bench, Fail> {
-    bench_of(&[3, 2], &[lock(0, 2, 1, 0)])
-}
-
 // Twelve valves of four positions: 16,777,216 settings, the most that a plant has.
 pub(crate) fn largest_bench() -> Result<Bench, Fail> {
     bench_of(&[4; 12], &[])
@@ -39,22 +35,14 @@ pub(crate) fn track_of(stations: u16, links: &[Link]) -> Result<Track, Fail> {
     Ok(Track::new(stations, links)?)
 }
 
-// A ring of four stations, and a spur from station 2 to station 4.
-pub(crate) fn ring() -> Result<Track, Fail> {
-    track_of(
-        5,
-        &[link(0, 1), link(1, 2), link(2, 3), link(3, 0), link(2, 4)],
-    )
-}
-
 // Stations without a link.
 pub(crate) fn yard(stations: u16) -> Result<Track, Fail> {
     track_of(stations, &[])
 }
 
 // Bench A, with the ring beside it: 30 settings, and operations 0 to 3 of the bench and 4 to 8 of the ring.
-pub(crate) fn bench_and_ring() -> Result<Pair<Bench, Track>, Fail> {
-    Ok(Pair::new(bench_a()?, ring()?))
+pub(crate) fn bench_and_ring() -> Pair<Bench, Track> {
+    Pair::new(bench_a(), ring_with_spur())
 }
 
 // A setting, an operation, and where it leads.

@@ -1,10 +1,9 @@
 // Tags: what they take out, what is refused, and tags below and above other plants.
-use crate::samples::{
-    Examples, bench_a, bench_and_ring, check_examples, check_size, check_steps, ring,
-};
+use crate::samples::{Examples, bench_and_ring, check_examples, check_size, check_steps};
 use pair::pair::Pair;
 use plant::plant::Plant;
 use plant::refusal::Refusal;
+use sample_plants::{bench_a, ring_with_spur};
 use std::process::Abort;
 use std::test::Fail;
 use tagged::tagged::Tagged;
@@ -19,7 +18,7 @@ fn check_tags<P: Plant>(rt: &impl Abort, plant: &Tagged<P>, rows: &[(u16, bool)]
 // A tag covers an operation and its reverse, and is taken off by either. All else is as below.
 #[test]
 fn an_operation_and_its_reverse(rt: HostRuntime) -> Result<(), Fail> {
-    let mut plant = Tagged::new(bench_a()?);
+    let mut plant = Tagged::new(bench_a());
     let free = [(0, 2, Some(3)), (3, 3, Some(0)), (0, 0, Some(1))];
     let examples = Examples {
         settings: 6,
@@ -46,7 +45,7 @@ fn an_operation_and_its_reverse(rt: HostRuntime) -> Result<(), Fail> {
 // Refused calls leave the tags as they were.
 #[test]
 fn refused_tags(rt: HostRuntime) -> Result<(), Fail> {
-    let mut plant = Tagged::new(bench_a()?);
+    let mut plant = Tagged::new(bench_a());
     plant.tag(0)?;
     assert_eq!(rt; plant.tag(0), Err(Refusal::TaggedAlready));
     assert_eq!(rt; plant.tag(1), Err(Refusal::TaggedAlready));
@@ -65,7 +64,7 @@ fn refused_tags(rt: HostRuntime) -> Result<(), Fail> {
 // On a track an operation is its own reverse, and a tag covers it alone.
 #[test]
 fn a_tag_on_a_track(rt: HostRuntime) -> Result<(), Fail> {
-    let mut plant = Tagged::new(ring()?);
+    let mut plant = Tagged::new(ring_with_spur());
     plant.tag(1)?;
     check_steps(
         &rt,
@@ -80,7 +79,7 @@ fn a_tag_on_a_track(rt: HostRuntime) -> Result<(), Fail> {
 
 #[test]
 fn tags_over_a_pair(rt: HostRuntime) -> Result<(), Fail> {
-    let mut plant = Tagged::new(bench_and_ring()?);
+    let mut plant = Tagged::new(bench_and_ring());
     plant.tag(1)?;
     plant.tag(8)?;
     assert_eq!(rt; plant.tag(9), Err(Refusal::NoSuchOperation));
@@ -101,8 +100,8 @@ fn tags_over_a_pair(rt: HostRuntime) -> Result<(), Fail> {
 // The pair's operation 4 is the ring's operation 0.
 #[test]
 fn a_pair_of_tagged_plants(rt: HostRuntime) -> Result<(), Fail> {
-    let mut bench = Tagged::new(bench_a()?);
-    let mut track = Tagged::new(ring()?);
+    let mut bench = Tagged::new(bench_a());
+    let mut track = Tagged::new(ring_with_spur());
     bench.tag(2)?;
     track.tag(0)?;
     let pair = Pair::new(bench, track);
@@ -124,7 +123,7 @@ fn a_pair_of_tagged_plants(rt: HostRuntime) -> Result<(), Fail> {
 // Each layer knows its own tags, and what one takes out stays out whatever the other does.
 #[test]
 fn two_layers_of_tags(rt: HostRuntime) -> Result<(), Fail> {
-    let mut below = Tagged::new(bench_a()?);
+    let mut below = Tagged::new(bench_a());
     below.tag(0)?;
     let mut above = Tagged::new(below);
     assert!(rt; !above.is_tagged(0));

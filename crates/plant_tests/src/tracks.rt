@@ -1,5 +1,6 @@
 // Tracks: links from both ends, and the data that make no track.
-use crate::samples::{Examples, check_examples, check_size, check_steps, link, ring, track_of};
+use crate::samples::{Examples, check_examples, check_size, check_steps, link, track_of};
+use sample_plants::ring_with_spur;
 use std::process::Abort;
 use std::test::Fail;
 use track::link::{Link, TrackFault};
@@ -17,7 +18,7 @@ fn check_faults(rt: &impl Abort, rows: &[Row<'_>]) {
 // Among the steps are stations that are not on the link, and at the end what is out of range.
 #[test]
 fn links_lead_both_ways(rt: HostRuntime) -> Result<(), Fail> {
-    let track = ring()?;
+    let track = ring_with_spur();
     let along = [
         (0, 0, Some(1)),
         (1, 0, Some(0)),

@@ -14,7 +14,7 @@ impl Track {
         ensures { Makes stations links.now result }
     {
         check(stations, links)?;
-        let mut held = [Link { one: 0, other: 0 }; LINKS];
+        let mut held = [Link::default(); LINKS];
         held[..links.len()].copy_from_slice(links);
         Ok(Track {
             stations,
