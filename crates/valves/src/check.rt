@@ -43,7 +43,7 @@ fn check_positions(positions: &[u8]) -> Result<(), BenchFault>
     ensures { result_err result ≡ positions_fault positions.now 0 }
 {
     for (valve, count) in positions.iter().enumerate() {
-        if *count < FEWEST || *count > MOST {
+        if !(FEWEST..=MOST).contains(count) {
             return Err(BenchFault::Positions(valve as u8));
         }
     }
