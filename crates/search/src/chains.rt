@@ -71,13 +71,12 @@ impl<'a> Chains<'a> {
         self.memory[place] as usize
     }
 
-    // Enters the records behind the first ones, so many, at the places to which they move down.
-    fn link_again<R: Record>(&mut self, records: &[R], gone: usize)
-        ensures { Follows self.old (map R.Record.tells records.now) → Follows self.new (drop gone (map R.Record.tells records.now)) }
+    // Enters these records and no others, from the first place on.
+    fn link_again<R: Record>(&mut self, records: &[R])
+        ensures { (ss : List ℕ) → Follows self.old ss → Follows self.new (map R.Record.tells records.now) }
     {
-        for place in gone..records.len() {
-            let record = records[place];
-            self.link(place - gone, record.setting());
+        for (place, record) in records.iter().enumerate() {
+            self.link(place, record.setting());
         }
     }
 }
@@ -113,7 +112,7 @@ impl<'a, R: Record> Lookup<R> for Chains<'a> {
     }
 
     fn lower(&mut self, records: &[R], gone: usize) {
-        self.link_again(records, gone);
+        self.link_again(&records[gone..]);
     }
 
     fn clear(&mut self, _records: &[R]) {}

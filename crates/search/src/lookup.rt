@@ -1,9 +1,8 @@
 // How a setting is looked up among the records of a workspace: one interface, so that the search above is proved once
 // over every way of looking. What looks up is told when a record enters, when the layers move down and when they are
 // cleared, so that an index in memory of its own can follow.
-ghost use Rattle.std.specs.Prelude.{◌≡◌, ℕ, false, List, [], ◌∷◌, ◌++◌, map, length, drop};
+ghost use Rattle.std.specs.Prelude.{◌≡◌, ℕ, ◌≤◌, false, List, [], ◌∷◌, ◌++◌, map, length, drop};
 ghost use Rattle.legs.specs.Layers.{has};
-ghost use Rattle.search.specs.Places.{Place};
 
 use crate::record::Record;
 
@@ -22,6 +21,7 @@ pub(crate) trait Lookup<R: Record> {
 
     // The first of these records leave, so many, and the others move down to the front.
     fn lower(&mut self, records: &[R], gone: usize)
+        requires { gone ≤ length records.now }
         ensures { follows self.old (map R.Record.tells records.now) → follows self.new (drop gone (map R.Record.tells records.now)) };
 
     // All of these records leave.
@@ -51,20 +51,5 @@ impl<R: Record> Lookup<R> for Scan {
 pub(crate) fn stands<R: Record>(records: &[R], setting: u32) -> bool
     ensures { result ≡ has (map R.Record.tells records.now) setting }
 {
-    match first_place(records, setting) {
-        Some(_) => true,
-        None => false,
-    }
-}
-
-// The first place of a record with this setting.
-pub(crate) fn first_place<R: Record>(records: &[R], setting: u32) -> Option<usize>
-    ensures { Place (map R.Record.tells records.now) setting result }
-{
-    for (place, record) in records.iter().enumerate() {
-        if record.setting() == setting {
-            return Some(place);
-        }
-    }
-    None
+    records.iter().any(|record| record.setting() == setting)
 }

@@ -17,9 +17,7 @@ impl<'a> Marks<'a> {
     pub(crate) fn over(memory: &'a mut [u32]) -> Marks<'a>
         ensures { Follows result [] }
     {
-        for word in memory.iter_mut() {
-            *word = 0;
-        }
+        memory.fill(0);
         Marks { memory }
     }
 
@@ -36,13 +34,11 @@ impl<'a> Marks<'a> {
         self.memory[word] = old ^ (1 << (setting % 32));
     }
 
-    // Takes back the marks of the first of these records, so many.
-    fn take_back<R: Record>(&mut self, records: &[R], count: usize)
-        ensures { Follows self.old (map R.Record.tells records.now) → Follows self.new (drop count (map R.Record.tells records.now)) }
+    // Takes back the marks of these records.
+    fn take_back<R: Record>(&mut self, records: &[R])
+        ensures { (ss : List ℕ) → Follows self.old (map R.Record.tells records.now ++ ss) → Follows self.new ss }
     {
-        let most = count.min(records.len());
-        for place in 0..most {
-            let record = records[place];
+        for record in records {
             self.turn(record.setting());
         }
     }
@@ -64,10 +60,10 @@ impl<'a, R: Record> Lookup<R> for Marks<'a> {
     }
 
     fn lower(&mut self, records: &[R], gone: usize) {
-        self.take_back(records, gone);
+        self.take_back(&records[..gone]);
     }
 
     fn clear(&mut self, records: &[R]) {
-        self.take_back(records, records.len());
+        self.take_back(records);
     }
 }

@@ -6,22 +6,13 @@ ghost use Rattle.search.specs.Stored.{room_of, count, Ready, standing};
 ghost use Rattle.search.specs.Stands.{Stands};
 ghost use Rattle.search.specs.Walked.{present_records, Hit, RunThrough};
 
+use crate::clear::clear_all;
 use crate::leg::Leg;
-use crate::lookup::{Lookup, first_place};
+use crate::lookup::Lookup;
 use crate::record::Record;
 use crate::store::Store;
 use crate::walk::Ended;
 use plant::plant::Plant;
-
-// The first of these records that tells the setting.
-fn first_record<R: Record>(records: &[R], setting: u32) -> Option<R>
-    ensures { Hit R.Record.tells records.now setting result }
-{
-    match first_place(records, setting) {
-        Some(place) => Some(records[place]),
-        None => None,
-    }
-}
 
 impl<'a, R: Record> Store<'a, R> {
     // The record of a setting in the present layer.
@@ -29,9 +20,11 @@ impl<'a, R: Record> Store<'a, R> {
         requires { count self.now ≤ length (room_of self.now) }
         ensures { Hit R.Record.tells (present_records self.now) setting result }
     {
-        let front = self.before;
-        let end = self.before + self.present;
-        first_record(&self.room[front..end], setting)
+        let record = self
+            .present_layer()
+            .iter()
+            .find(|record| record.setting() == setting);
+        record.copied()
     }
 
     // Tells the lookup that all records leave.
@@ -49,9 +42,7 @@ pub(crate) fn blank_front<R: Record>(records: &mut [R], count: usize)
     requires { count ≤ length records.old }
     ensures { records.new ≡ replicate count R.Record.blank ++ drop count records.old }
 {
-    for place in 0..count {
-        records[place] = R::zero();
-    }
+    clear_all(&mut records[0..count]);
 }
 
 // A leg that has ended, and the record of its target if the last layer holds it.

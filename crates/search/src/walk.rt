@@ -1,14 +1,13 @@
 // A leg from its first layer to its end.
-ghost use Rattle.std.specs.Prelude.{◌≡◌, ◌<◌, ◌≤◌, [], map, length, take, drop};
-ghost use Rattle.search.specs.Places.{Place};
+ghost use Rattle.std.specs.Prelude.{◌≡◌, ◌<◌, ◌≤◌, [], length};
 ghost use Rattle.search.specs.Records.{kind};
 ghost use Rattle.search.specs.Leg.{leg_of};
 ghost use Rattle.search.specs.Stored.{room_of, count, Ready};
 ghost use Rattle.search.specs.Stands.{Stands, Begun};
-ghost use Rattle.search.specs.Walked.{over, Ran};
+ghost use Rattle.search.specs.Walked.{present_records, over, Ran};
 
 use crate::leg::Leg;
-use crate::lookup::{Lookup, first_place};
+use crate::lookup::{Lookup, stands};
 use crate::record::Record;
 use crate::store::Store;
 use plant::plant::Plant;
@@ -37,14 +36,14 @@ impl<'a, R: Record> Store<'a, R> {
         }
     }
 
-    // The place of a setting in the present layer.
-    pub(crate) fn find(&self, setting: u32) -> Option<usize>
+    // The records of the present layer.
+    pub(crate) fn present_layer(&self) -> &[R]
         requires { count self.now ≤ length (room_of self.now) }
-        ensures { Place (map R.Record.tells (take self.now.present (drop self.now.before (room_of self.now)))) setting result }
+        ensures { result.now ≡ present_records self.now }
     {
         let front = self.before;
         let end = self.before + self.present;
-        first_place(&self.room[front..end], setting)
+        &self.room[front..end]
     }
 
     // Whether a leg that has come to this depth ends there: the layer holds the target, is empty, or is at the bound.
@@ -52,16 +51,7 @@ impl<'a, R: Record> Store<'a, R> {
         requires { count self.now ≤ length (room_of self.now) }
         ensures { result ≡ over R.Record.tells self.now (leg_of leg.now) depth }
     {
-        if self.present == 0 {
-            return true;
-        }
-        if depth == leg.bound {
-            return true;
-        }
-        match self.find(leg.target) {
-            Some(_) => true,
-            None => false,
-        }
+        self.present == 0 || depth == leg.bound || stands(self.present_layer(), leg.target)
     }
 
     // Goes on from the first layer to the leg's end. None where the slice is too short.

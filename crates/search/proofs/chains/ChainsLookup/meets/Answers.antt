@@ -21,7 +21,7 @@ returns-then-told-setting g c =
     let rs = c.args.records.now in
     let tells = g.R.Record.tells in
     let inside : c.loop-place.place < length rs = omega (arith, c.loop-place-test.true, c.loop-place.invariant.0) in
-    let told = told_here tells rs 0 c.loop-place.place c.index-records-place.result inside c.index-records-place.is ∙ sym c.setting-told.ensures in
+    let told = told_here tells rs c.loop-place.place c.index-records-place.result inside c.index-records-place.is ∙ sym c.setting-told.ensures in
     sym (has_at (map tells rs) c.loop-place.place c.args.setting (omega (arith, inside, length-map rs tells)) (told ∙ c.if-told-setting.true))
 
 pub returns-then-bucket-here : goal.returns-then-bucket-here
@@ -30,7 +30,7 @@ returns-then-bucket-here g c =
     let rs = c.args.records.now in
     let tells = g.R.Record.tells in
     let inside : c.loop-place.place < length rs = omega (arith, c.loop-place-test.true, c.loop-place.invariant.0) in
-    let told = told_here tells rs 0 c.loop-place.place c.index-records-place.result inside c.index-records-place.is ∙ sym c.setting-told.ensures in
+    let told = told_here tells rs c.loop-place.place c.index-records-place.result inside c.index-records-place.is ∙ sym c.setting-told.ensures in
     sym (left_bucket s.memory.now s.heads (map tells rs) c.args.setting c.loop-place.above c.loop-place.place c.loop-place.invariant.1
     (λ e. c.if-told-setting.false (sym told ∙ e))
     (λ e. c.if-bucket-here.true (c.bucket.ensures.is ∙ ap (bucket_of s.heads) (sym told) ∙ e ∙ sym c.bucket-here.ensures.is)))
@@ -47,7 +47,7 @@ loop-place-preserved g c =
     let rs = c.args.records.now in
     let tells = g.R.Record.tells in
     let inside : c.loop-place.place < length rs = omega (arith, c.loop-place-test.true, c.loop-place.invariant.0) in
-    let told = told_here tells rs 0 c.loop-place.place c.index-records-place.result inside c.index-records-place.is ∙ sym c.setting-told.ensures in
+    let told = told_here tells rs c.loop-place.place c.index-records-place.result inside c.index-records-place.is ∙ sym c.setting-told.ensures in
     let next = left_next s.memory.now s.heads (map tells rs) c.args.setting c.loop-place.above c.loop-place.place c.loop-place.invariant.1 (λ e. c.if-told-setting.false (sym told ∙ e)) in
     (omega (arith, inside), subst (λ q. Left s.memory.now s.heads (map tells rs) c.args.setting c.loop-place.place q) (sym c.linked-place.ensures) next)
 

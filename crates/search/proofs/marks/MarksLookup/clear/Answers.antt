@@ -1,13 +1,11 @@
--- None is left when all have left.
-use Rattle.std.proofs.Common.{map, length, subst, arith}
-use lib.ListN.{length-map}
-use Rattle.std.proofs.lemmas.List.{drop_all}
+-- No others are left.
+use Rattle.std.proofs.Common.{[], map, sym, subst}
+use Rattle.std.proofs.lemmas.List.{append-nil}
 use Rattle.search.specs.Marked.{Follows}
 use Rattle.search.proofs.marks.MarksLookup.clear.Goals as goal
 
 pub returns : goal.returns
 returns g c =
     λ follows.
-    let tells = g.R.Record.tells in
-    let rs = c.args.records.now in
-    subst (λ ss. Follows c.take_back.new.self ss) (drop_all (length rs) (map tells rs) (omega (arith, length-map rs tells))) (c.take_back.ensures follows)
+    let ss = map g.R.Record.tells c.args.records.now in
+    c.take_back.ensures [] (subst (λ xs. Follows c.args.self.now xs) (sym (append-nil ss)) follows)
