@@ -114,6 +114,4 @@ impl<'a, R: Record> Lookup<R> for Chains<'a> {
     fn lower(&mut self, records: &[R], gone: usize) {
         self.link_again(&records[gone..]);
     }
-
-    fn clear(&mut self, _records: &[R]) {}
 }

@@ -1,5 +1,6 @@
 // The search of one leg, over any plant and any kind of record: the call that measures and plans are made of.
 ghost use Rattle.std.specs.Prelude.{◌≡◌, ◌<◌, ◌≤◌, length};
+ghost use Rattle.std.specs.Result.{result_ok};
 ghost use Rattle.legs.specs.Legs.{need};
 ghost use Rattle.search.specs.Records.{kind};
 ghost use Rattle.search.specs.Leg.{leg, leg_of};
@@ -7,11 +8,13 @@ ghost use Rattle.search.specs.Walked.{RunThrough};
 ghost use Rattle.search.specs.Answered.{LegAnswer, leg_leaves, Searched, zeroed};
 
 use crate::chains::Chains;
+use crate::clear::{blank_front, clear_all};
 use crate::leg::Leg;
 use crate::lookup::Scan;
 use crate::marks::Marks;
-use crate::one_leg::{Walk, blank_front, walk_leg};
+use crate::one_leg::{Walk, walk_leg};
 use crate::record::Record;
+use crate::overfull::Overfull;
 use plant::plant::Plant;
 use plant::refusal::Refusal;
 
@@ -93,19 +96,17 @@ fn search_within<P: Plant, R: Record>(
         return Err(Refusal::Overfull);
     }
     match walk_by(plant, leg, records, index) {
-        Some(Walk { ended, hit }) => {
+        Ok(Walk { ended, hit }) => {
             blank_front(records, ended.used);
-            match hit {
-                Some(record) => Ok(Reached {
-                    length: ended.depth,
-                    expanded: ended.expanded,
-                    record,
-                }),
-                None => Err(Refusal::OutOfReach),
-            }
+            let record = hit.ok_or(Refusal::OutOfReach)?;
+            Ok(Reached {
+                length: ended.depth,
+                expanded: ended.expanded,
+                record,
+            })
         }
-        None => {
-            blank_front(records, all);
+        Err(Overfull) => {
+            clear_all(records);
             Err(Refusal::Overfull)
         }
     }
@@ -119,11 +120,11 @@ fn walk_by<P: Plant, R: Record>(
     leg: &Leg,
     records: &mut [R],
     index: &mut [u32],
-) -> Option<Walk<R>>
+) -> Result<Walk<R>, Overfull>
     requires start { leg.now.start < (P.meaning plant.now).settings }
     requires bound { leg.now.bound ≤ 255 }
     requires some { 1 ≤ length records.old }
-    ensures { RunThrough (P.meaning plant.now) (kind R.Record.tells R.Record.opens R.Record.carries leg.now.half) (leg_of leg.now) records.old records.new result }
+    ensures { RunThrough (P.meaning plant.now) (kind R.Record.tells R.Record.opens R.Record.carries leg.now.half) (leg_of leg.now) records.old records.new (result_ok result) }
 {
     let words = (plant.settings() as usize + 31) / 32;
     if words <= index.len() {

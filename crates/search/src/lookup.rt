@@ -6,13 +6,13 @@ ghost use Rattle.legs.specs.Layers.{has};
 
 use crate::record::Record;
 
-pub(crate) trait Lookup<R: Record> {
+pub(crate) trait Lookup<R: Record>: Drop {
     // it follows records of these settings, in the order of their places
     ghost follows: { Self → List ℕ → Type 0 };
 
     // Whether one of the records has this setting.
     fn meets(&self, records: &[R], setting: u32) -> bool
-        requires { follows self.now (map R.Record.tells records.now) }
+        requires { ∥ follows self.now (map R.Record.tells records.now) ∥₁ }
         ensures { result ≡ has (map R.Record.tells records.now) setting };
 
     // A record with this setting, which none of the others has, has entered behind them, at this place.
@@ -23,10 +23,6 @@ pub(crate) trait Lookup<R: Record> {
     fn lower(&mut self, records: &[R], gone: usize)
         requires { gone ≤ length records.now }
         ensures { follows self.old (map R.Record.tells records.now) → follows self.new (drop gone (map R.Record.tells records.now)) };
-
-    // All of these records leave.
-    fn clear(&mut self, records: &[R])
-        ensures { follows self.old (map R.Record.tells records.now) → follows self.new [] };
 }
 
 // Looks at every record. It keeps nothing, so there is nothing to follow.
@@ -43,8 +39,23 @@ impl<R: Record> Lookup<R> for Scan {
     fn enter(&mut self, _place: usize, _setting: u32) {}
 
     fn lower(&mut self, _records: &[R], _gone: usize) {}
+}
 
-    fn clear(&mut self, _records: &[R]) {}
+// What is lent follows as it does where it is.
+impl<R: Record, L: Lookup<R>> Lookup<R> for &mut L {
+    ghost follows = { λ l ss. L.Lookup.follows l.now ss };
+
+    fn meets(&self, records: &[R], setting: u32) -> bool {
+        (**self).meets(records, setting)
+    }
+
+    fn enter(&mut self, place: usize, setting: u32) {
+        (**self).enter(place, setting);
+    }
+
+    fn lower(&mut self, records: &[R], gone: usize) {
+        (**self).lower(records, gone);
+    }
 }
 
 // Whether one of these records has the setting.

@@ -62,8 +62,4 @@ impl<'a, R: Record> Lookup<R> for Marks<'a> {
     fn lower(&mut self, records: &[R], gone: usize) {
         self.take_back(&records[..gone]);
     }
-
-    fn clear(&mut self, records: &[R]) {
-        self.take_back(records);
-    }
 }
