@@ -8,9 +8,9 @@ ghost use Rattle.search.specs.Offered.{arriving, Taken};
 ghost use Rattle.search.specs.Stands.{Stands, filled_by, Expanded, Completed};
 
 use crate::lookup::Lookup;
+use crate::overfull::Overfull;
 use crate::record::Record;
 use crate::search::Search;
-use crate::overfull::Overfull;
 use plant::plant::Plant;
 
 impl<'p, 'a, P: Plant, R: Record, L: Lookup<R>> Search<'p, 'a, P, R, L> {

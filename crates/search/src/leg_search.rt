@@ -13,8 +13,8 @@ use crate::leg::Leg;
 use crate::lookup::Scan;
 use crate::marks::Marks;
 use crate::one_leg::{Walk, walk_leg};
-use crate::record::Record;
 use crate::overfull::Overfull;
+use crate::record::Record;
 use plant::plant::Plant;
 use plant::refusal::Refusal;
 

@@ -7,9 +7,9 @@ ghost use Rattle.search.specs.Walked.{RunThrough};
 
 use crate::leg::Leg;
 use crate::lookup::Lookup;
+use crate::overfull::Overfull;
 use crate::record::Record;
 use crate::search::Search;
-use crate::overfull::Overfull;
 use crate::sizes::Sizes;
 use crate::task::Task;
 use crate::walk::Ended;

@@ -5,9 +5,9 @@ ghost use Rattle.search.specs.Records.{kind};
 ghost use Rattle.search.specs.Leg.{leg_of};
 
 use crate::lookup::{Lookup, stands};
+use crate::overfull::Overfull;
 use crate::record::Record;
 use crate::search::Search;
-use crate::overfull::Overfull;
 use plant::plant::Plant;
 
 // Where a leg ended: the depth, the settings expanded, and the most records that stood at a time.

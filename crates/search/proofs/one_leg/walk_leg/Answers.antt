@@ -6,7 +6,6 @@ use Rattle.legs.proofs.Need.{need_one}
 use Rattle.search.specs.Records.{kind}
 use Rattle.search.specs.Leg.{leg_of}
 use Rattle.search.specs.Stored.{store_of}
-use Rattle.search.specs.Stands.{Begun}
 use Rattle.search.specs.Walked.{Ran}
 use Rattle.search.proofs.Turns.{drop_further}
 use Rattle.search.proofs.Walking.{hit_at_end, same_behind}

@@ -1,5 +1,5 @@
 -- One place a turn, each below the one before.
-use Rattle.std.proofs.Common.{◌≡◌, ◌+◌, ◌<◌, map, length, get_or, sym, ap, ◌∙◌, subst, arith}
+use Rattle.std.proofs.Common.{◌+◌, ◌<◌, map, length, get_or, sym, ap, ◌∙◌, subst, arith}
 use Rattle.std.proofs.Math.Bool.{Bool-set}
 use Rattle.std.proofs.Math.Bridge.{le_prop}
 use Rattle.std.proofs.Math.Logic.{∥∥₁_elim, ∥∥₁_map}
@@ -19,11 +19,13 @@ loop-place-init g c =
     let s = c.args.self.now in
     let rs = c.args.records.now in
     let tells = g.R.Record.tells in
-    let some : 0 < s.heads = omega (arith, c.if-self-eq0.false) in
-    (omega arith, ∥∥₁_map c.requires (λ follows.
-    let all = left_all s.memory.now s.links s.heads (map tells rs) c.args.setting (follows some) in
-    let from = subst (λ n. Left s.memory.now s.heads (map tells rs) c.args.setting n (get_or s.memory.now (s.links + bucket_of s.heads c.args.setting) 0)) (length-map rs tells) all in
-    subst (λ b. Left s.memory.now s.heads (map tells rs) c.args.setting (length rs) (get_or s.memory.now (s.links + b) 0)) (sym c.bucket-here.ensures.is) from))
+    let some : 0 < s.heads = omega (arith, c.if-self-eq0.false) in (
+      omega arith,
+      ∥∥₁_map c.requires (λ follows.
+          let all = left_all s.memory.now s.links s.heads (map tells rs) c.args.setting (follows some) in
+          let from = subst (λ n. Left s.memory.now s.heads (map tells rs) c.args.setting n (get_or s.memory.now (s.links + bucket_of s.heads c.args.setting) 0)) (length-map rs tells) all in
+          subst (λ b. Left s.memory.now s.heads (map tells rs) c.args.setting (length rs) (get_or s.memory.now (s.links + b) 0)) (sym c.bucket-here.ensures.is) from),
+    )
 
 pub returns-then-told-setting : goal.returns-then-told-setting
 returns-then-told-setting g c =
@@ -57,10 +59,12 @@ loop-place-preserved g c =
     let rs = c.args.records.now in
     let tells = g.R.Record.tells in
     let inside : c.loop-place.place < length rs = omega (arith, c.loop-place-test.true, c.loop-place.invariant.0) in
-    let told = told_here tells rs c.loop-place.place c.index-records-place.result inside c.index-records-place.is ∙ sym c.setting-told.ensures in
-    (omega (arith, inside), ∥∥₁_map c.loop-place.invariant.1 (λ left.
-    let next = left_next s.memory.now s.heads (map tells rs) c.args.setting c.loop-place.above c.loop-place.place left (λ e. c.if-told-setting.false (sym told ∙ e)) in
-    subst (λ q. Left s.memory.now s.heads (map tells rs) c.args.setting c.loop-place.place q) (sym c.linked-place.ensures) next))
+    let told = told_here tells rs c.loop-place.place c.index-records-place.result inside c.index-records-place.is ∙ sym c.setting-told.ensures in (
+      omega (arith, inside),
+      ∥∥₁_map c.loop-place.invariant.1 (λ left.
+          let next = left_next s.memory.now s.heads (map tells rs) c.args.setting c.loop-place.above c.loop-place.place left (λ e. c.if-told-setting.false (sym told ∙ e)) in
+          subst (λ q. Left s.memory.now s.heads (map tells rs) c.args.setting c.loop-place.place q) (sym c.linked-place.ensures) next),
+    )
 
 pub returns : goal.returns
 returns g c =

@@ -1,5 +1,5 @@
 -- The new record stands behind the others, and the lookup is told.
-use Rattle.std.proofs.Common.{◌≡◌, ◌+◌, ◌<◌, false, [], ◌∷◌, ◌++◌, map, length, take, set, sym, ap, ◌∙◌, subst, arith, length-set}
+use Rattle.std.proofs.Common.{◌≡◌, ◌+◌, false, [], ◌∷◌, ◌++◌, map, length, take, set, sym, ap, ◌∙◌, subst, arith, length-set}
 use Rattle.std.proofs.Math.Logic.{∥∥₁_map}
 use lib.ListN.{length-map}
 use Rattle.std.proofs.lemmas.List.{take_more_set, map_push, length-take-le}
