@@ -15,6 +15,7 @@ use crate::marks::Marks;
 use crate::one_leg::{Walk, walk_leg};
 use crate::overfull::Overfull;
 use crate::record::Record;
+use crate::task::Task;
 use plant::plant::Plant;
 use plant::refusal::Refusal;
 
@@ -91,11 +92,8 @@ fn search_within<P: Plant, R: Record>(
     ensures answer { Searched (P.meaning plant.now) (kind R.Record.tells R.Record.opens R.Record.carries leg.now.half) (leg_of leg.now) (length records.old) result }
     ensures records { records.new ≡ zeroed R.Record.blank (need (P.meaning plant.now) (leg_of leg.now)) records.old }
 {
-    let all = records.len();
-    if all == 0 {
-        return Err(Refusal::Overfull);
-    }
-    match walk_by(plant, leg, records, index) {
+    let task = Task { plant, leg: *leg };
+    match walk_by(task, records, index) {
         Ok(Walk { ended, hit }) => {
             blank_front(records, ended.used);
             let record = hit.ok_or(Refusal::OutOfReach)?;
@@ -116,25 +114,21 @@ fn search_within<P: Plant, R: Record>(
 // plant, else chains where it has more numbers than there are records, else record by record. For chains to be short,
 // lend two to three times as many numbers as records.
 fn walk_by<P: Plant, R: Record>(
-    plant: &P,
-    leg: &Leg,
+    task: Task<P>,
     records: &mut [R],
     index: &mut [u32],
 ) -> Result<Walk<R>, Overfull>
-    requires start { leg.now.start < (P.meaning plant.now).settings }
-    requires bound { leg.now.bound ≤ 255 }
-    requires some { 1 ≤ length records.old }
-    ensures { RunThrough (P.meaning plant.now) (kind R.Record.tells R.Record.opens R.Record.carries leg.now.half) (leg_of leg.now) records.old records.new (result_ok result) }
+    ensures { RunThrough (P.meaning task.entry.plant.now) (kind R.Record.tells R.Record.opens R.Record.carries task.entry.leg.half) (leg_of task.entry.leg) records.old records.new (result_ok result) }
 {
-    let words = (plant.settings() as usize + 31) / 32;
+    let words = (task.plant.settings() as usize + 31) / 32;
     if words <= index.len() {
         let mut marks = Marks::over(&mut index[0..words]);
-        return walk_leg(plant, leg, records, &mut marks);
+        return walk_leg(task, records, &mut marks);
     }
     let count = records.len();
     if count < index.len() {
         let mut chains = Chains::over(index, count);
-        return walk_leg(plant, leg, records, &mut chains);
+        return walk_leg(task, records, &mut chains);
     }
-    walk_leg(plant, leg, records, &mut Scan)
+    walk_leg(task, records, &mut Scan)
 }

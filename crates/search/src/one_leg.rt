@@ -1,11 +1,10 @@
 // One leg searched in records that the caller lends: its length, what it expands, and the record of its target.
-ghost use Rattle.std.specs.Prelude.{◌<◌, ◌≤◌, [], length};
+ghost use Rattle.std.specs.Prelude.{[]};
 ghost use Rattle.std.specs.Result.{result_ok};
 ghost use Rattle.search.specs.Records.{kind};
 ghost use Rattle.search.specs.Leg.{leg_of};
 ghost use Rattle.search.specs.Walked.{RunThrough};
 
-use crate::leg::Leg;
 use crate::lookup::Lookup;
 use crate::overfull::Overfull;
 use crate::record::Record;
@@ -23,18 +22,14 @@ pub(crate) struct Walk<R> {
 
 // Walks the leg.
 pub(crate) fn walk_leg<P: Plant, R: Record, L: Lookup<R>>(
-    plant: &P,
-    leg: &Leg,
+    task: Task<P>,
     records: &mut [R],
     lookup: &mut L,
 ) -> Result<Walk<R>, Overfull>
-    requires follows { L.Lookup.follows lookup.old [] }
-    requires start { leg.now.start < (P.meaning plant.now).settings }
-    requires bound { leg.now.bound ≤ 255 }
-    requires some { 1 ≤ length records.old }
-    ensures { RunThrough (P.meaning plant.now) (kind R.Record.tells R.Record.opens R.Record.carries leg.now.half) (leg_of leg.now) records.old records.new (result_ok result) }
+    requires { L.Lookup.follows lookup.old [] }
+    ensures { RunThrough (P.meaning task.entry.plant.now) (kind R.Record.tells R.Record.opens R.Record.carries task.entry.leg.half) (leg_of task.entry.leg) records.old records.new (result_ok result) }
 {
-    let task = Task { plant, leg: *leg };
+    let target = task.leg.target;
     let mut search = Search {
         task,
         room: records,
@@ -45,10 +40,10 @@ pub(crate) fn walk_leg<P: Plant, R: Record, L: Lookup<R>>(
         },
         lookup,
     };
-    search.begin();
+    search.begin()?;
     let ended = search.run()?;
     Ok(Walk {
         ended,
-        hit: search.record_of(leg.target),
+        hit: search.record_of(target),
     })
 }

@@ -1,4 +1,6 @@
-// What is searched: a leg, over a plant.
+// What is searched: a leg over a plant, with its start and its bound in range.
+ghost use Rattle.std.specs.Prelude.{◌<◌, ◌≤◌};
+
 use crate::leg::Leg;
 use plant::plant::Plant;
 
@@ -6,4 +8,6 @@ use plant::plant::Plant;
 pub(crate) struct Task<'p, P: Plant> {
     pub(crate) plant: &'p P,
     pub(crate) leg: Leg,
+    ghost start: { leg.start < (P.meaning plant.now).settings },
+    ghost bound: { leg.bound ≤ 255 },
 }

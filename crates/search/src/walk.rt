@@ -1,5 +1,5 @@
 // A leg from its first layer to its end.
-ghost use Rattle.std.specs.Prelude.{◌≡◌, ◌<◌, ◌≤◌, [], length};
+ghost use Rattle.std.specs.Prelude.{◌≡◌, ◌≤◌, [], length, OnOk, OnErr};
 ghost use Rattle.std.specs.Result.{result_ok};
 ghost use Rattle.search.specs.Records.{kind};
 ghost use Rattle.search.specs.Leg.{leg_of};
@@ -23,20 +23,25 @@ impl<'p, 'a, P: Plant, R: Record, L: Lookup<R>> Search<'p, 'a, P, R, L> {
     ghost use Rattle.search.specs.Stands.{Stands, Begun};
     ghost use Rattle.search.specs.Walked.{over, Ran};
 
-    // The first layer: the start, if it fits.
-    pub(crate) fn begin(&mut self)
-        requires empty { count (store_of self.old) ≡ 0 }
-        requires some { 1 ≤ length self.old.room.now }
-        ensures begun { Begun (P.meaning self.old.task.plant.now) (kind R.Record.tells R.Record.opens R.Record.carries self.old.task.leg.half) (leg_of self.old.task.leg) (store_of self.old) (store_of self.new) }
+    // The first layer: the start, if it fits. A leg needs one record at least.
+    pub(crate) fn begin(&mut self) -> Result<(), Overfull>
+        requires { count (store_of self.old) ≡ 0 }
+        ensures begun { OnOk result (Begun (P.meaning self.old.task.plant.now) (kind R.Record.tells R.Record.opens R.Record.carries self.old.task.leg.half) (leg_of self.old.task.leg) (store_of self.old) (store_of self.new)) }
+        ensures some { OnOk result (1 ≤ length self.old.room.now) }
+        ensures none { OnErr result (length self.old.room.now ≡ 0) }
         ensures task { self.new.task ≡ self.old.task }
         ensures lender { self.new.room.ghost_name ≡ self.old.room.ghost_name }
     {
+        if self.room.len() == 0 {
+            return Err(Overfull);
+        }
         let start = self.task.leg.start;
         if self.admits(0, start) {
-            let _ = self.push(R::open(start));
+            self.push(R::open(start))?;
             self.sizes.next = 0;
             self.sizes.present = 1;
         }
+        Ok(())
     }
 
     // Whether a leg that has come to this depth ends there: the layer holds the target, is empty, or is at the bound.
@@ -49,8 +54,6 @@ impl<'p, 'a, P: Plant, R: Record, L: Lookup<R>> Search<'p, 'a, P, R, L> {
 
     // Goes on from the first layer to the leg's end.
     pub(crate) fn run(&mut self) -> Result<Ended, Overfull>
-        requires start { self.old.task.leg.start < (P.meaning self.old.task.plant.now).settings }
-        requires bound { self.old.task.leg.bound ≤ 255 }
         requires some { 1 ≤ length self.old.room.now }
         requires stands { Stands (P.meaning self.old.task.plant.now) (kind R.Record.tells R.Record.opens R.Record.carries self.old.task.leg.half) (leg_of self.old.task.leg) 0 [] (store_of self.old) }
         ensures ran { Ran (P.meaning self.old.task.plant.now) (kind R.Record.tells R.Record.opens R.Record.carries self.old.task.leg.half) (leg_of self.old.task.leg) (store_of self.old) (store_of self.new) (result_ok result) }

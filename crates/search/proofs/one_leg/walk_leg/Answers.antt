@@ -1,28 +1,38 @@
 -- The leg ran to its end in the store that these records made.
-use Rattle.std.proofs.Common.{◌≡◌, [], drop, Some, ap, ◌∙◌, subst, arith, rules}
+use Rattle.std.proofs.Common.{◌≡◌, [], drop, Some, None, sym, ap, ◌∙◌, subst, arith, rules}
+use Rattle.std.specs.Result.{result_ok}
 use Rattle.legs.specs.Kinds.{Tells}
 use Rattle.legs.specs.Legs.{need, sizes, most_room}
 use Rattle.legs.proofs.Need.{need_one}
 use Rattle.search.specs.Records.{kind}
 use Rattle.search.specs.Leg.{leg_of}
 use Rattle.search.specs.Stored.{store_of}
-use Rattle.search.specs.Walked.{Ran}
+use Rattle.search.specs.Walked.{Ran, RunThrough}
 use Rattle.search.proofs.Turns.{drop_further}
 use Rattle.search.proofs.Walking.{hit_at_end, same_behind}
 use Rattle.search.proofs.one_leg.walk_leg.Goals as goal
 
+pub returns-in_err-begin : goal.returns-in_err-begin
+returns-in_err-begin g c =
+    let m = g.P.Plant.meaning c.args.task.plant.now in
+    let k = kind g.R.Record.tells g.R.Record.opens g.R.Record.carries c.args.task.leg.half in
+    let l = leg_of c.args.task.leg in
+    let none = c.in_err-begin.ensures.none in
+    let failed : result_ok c.from_residual.result ≡ None = search rules in
+    subst (RunThrough m k l c.args.records.now _) (sym failed) (omega (arith, none, need_one m l))
+
 pub returns : goal.returns
 returns g c =
-    let m = g.P.Plant.meaning c.args.plant.now in
-    let lawful = g.met.P.Plant.lawful c.args.plant.now in
+    let m = g.P.Plant.meaning c.args.task.plant.now in
+    let lawful = g.met.P.Plant.lawful c.args.task.plant.now in
     let tells = g.R.Record.tells in
-    let h = c.args.leg.now.half in
+    let h = c.args.task.leg.half in
     let k = kind tells g.R.Record.opens g.R.Record.carries h in
     let t : Tells k = record { begins = g.met.R.Record.opened; arrives = g.met.R.Record.carried h } in
-    let l = leg_of c.args.leg.now in
+    let l = leg_of c.args.task.leg in
     let first = store_of c.begin.new.self in
     let last = store_of c.run.new.self in
-    let begun = c.begin.ensures.begun in
+    let begun = c.in_ok-begin.ensures.begun in
     let ran : Ran m k l first last (Some c.in_ok-ended.ended) =
     subst (λ u. Ran (g.P.Plant.meaning u.plant.now) (kind tells g.R.Record.opens g.R.Record.carries u.leg.half) (leg_of u.leg) first last (Some c.in_ok-ended.ended)) c.begin.ensures.task c.in_ok-ended.ensures.ran in
     let lent = c.run.ensures.lender ∙ c.begin.ensures.lender in

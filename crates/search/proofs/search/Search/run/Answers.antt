@@ -49,7 +49,7 @@ overflow_add-expanded g c =
     let same = c.loop-self.invariant.1 in
     let going = sym (over_ends m lawful k t l d s w.stands) ∙ (sym (ap (λ u. over tells s (leg_of u.leg) d) same) ∙ (sym c.ended.ensures ∙ c.loop-self-test.true)) in
     let got = subst (λ u. Completed (g.P.Plant.meaning u.plant.now) (kind tells g.R.Record.opens g.R.Record.carries u.leg.half) (leg_of u.leg) d s s₁ true) same c.in_ok-expand_layer.ensures.completed in
-    let most = few m l lawful c.requires.start (suc d) in
+    let most = few m l lawful task.start (suc d) in
     omega (arith, most, lawful.settings_most, w.counted, got.0.presents, w.stands.presents, layer_size m l k t d)
 
 pub loop-self-preserved : goal.loop-self-preserved
