@@ -16,7 +16,7 @@ pub(crate) struct Chains<'a> {
 }
 
 // The most links, and the most heads.
-const MOST: usize = 4294967295;
+const MOST: usize = u32::MAX as usize;
 
 // The factor that spreads settings which lie close together over all numbers of 32 bits.
 const SPREAD: u32 = 2654435769;

@@ -30,8 +30,7 @@ impl<'a> Marks<'a> {
         if word >= self.memory.len() {
             return;
         }
-        let old = self.memory[word];
-        self.memory[word] = old ^ (1 << (setting % 32));
+        self.memory[word] ^= 1 << (setting % 32);
     }
 
     // Takes back the marks of these records.
@@ -48,11 +47,10 @@ impl<'a, R: Record> Lookup<R> for Marks<'a> {
     ghost follows = { Follows };
 
     fn meets(&self, records: &[R], setting: u32) -> bool {
-        let word = (setting / 32) as usize;
-        if word >= self.memory.len() {
-            return stands(records, setting);
+        match self.memory.get((setting / 32) as usize) {
+            Some(word) => (*word >> (setting % 32)) % 2 == 1,
+            None => stands(records, setting),
         }
-        (self.memory[word] >> (setting % 32)) % 2 == 1
     }
 
     fn enter(&mut self, _place: usize, setting: u32) {

@@ -4,11 +4,8 @@ use lib.ListN.{length-map}
 use Rattle.std.proofs.lemmas.List.{take_all, length-take-le}
 use Rattle.search.specs.Chained.{Follows}
 use Rattle.search.proofs.Scanning.{told_here}
-use Rattle.search.proofs.Chaining.{chained_none, entered_more}
+use Rattle.search.proofs.Chaining.{entered_more}
 use Rattle.search.proofs.chains.Chains.link_again.Goals as goal
-
-pub loop-place-init : goal.loop-place-init
-loop-place-init g c = λ ss follows some. chained_none c.args.self.now.memory.now c.args.self.now.links c.args.self.now.heads (follows some).long
 
 pub loop-place-preserved : goal.loop-place-preserved
 loop-place-preserved g c =
