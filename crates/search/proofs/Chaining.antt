@@ -1,7 +1,7 @@
 -- Chains lead to every place of their bucket, also after one more place is put in front. Assumes nothing.
-use Rattle.std.proofs.Common.{◌≡◌, ℕ, zero, suc, ◌+◌, ◌-◌, ◌*◌, ◌%◌, ◌<◌, ◌≤◌, false, eqb, ◌≢◌, List, [], ◌∷◌, ◌++◌, length, get_or, take, drop, set, sym, refl, ap, ◌∙◌, subst, ⊎_elim, arith, length-append, length-drop, length-set}
+use Rattle.std.proofs.Common.{◌≡◌, ℕ, zero, suc, ◌+◌, ◌-◌, ◌*◌, ◌%◌, ◌<◌, ◌≤◌, false, eqb, ◌≢◌, List, [], ◌∷◌, ◌++◌, length, get_or, take, set, sym, refl, ap, ◌∙◌, subst, ⊎_elim, arith, length-append, length-set}
 use Rattle.std.proofs.lemmas.Nat.{mod_below, mul-add-lt, div_below}
-use Rattle.std.proofs.lemmas.List.{get_or_append_left, get_or-append_right, get_or-set_same, get_or-set_other, get_or-drop, length-take-le, take_more}
+use Rattle.std.proofs.lemmas.List.{get_or_append_left, get_or-append_right, get_or-set_same, get_or-set_other, take_more}
 use Rattle.std.proofs.lemmas.Bool.{cases_eq, cases_lt, ne_eqb, or_from}
 use Rattle.legs.specs.Layers.{has}
 use Rattle.search.specs.Chained.{bucket_of, head_of, Down, Chained}
@@ -147,14 +147,6 @@ module _ (memory : List ℕ) (heads : ℕ) (ss : List ℕ) (u above p : ℕ) (le
 pub left_all : (memory : List ℕ) (links heads : ℕ) (ss : List ℕ) (u : ℕ) → Chained memory links heads ss → Left memory heads ss u (length ss) (head_of memory links heads u)
 left_all memory links heads ss u all = λ i below is. subst (λ w. (k : ℕ) × Down memory heads ss (bucket_of heads w) k (length ss) (head_of memory links heads w) i) is (all.found i below)
 
--- the settings that stay, as far as place i, when the first ones leave
-module _ (ss : List ℕ) (gone i : ℕ) (from : gone ≤ i) (inside : i < length ss) where
-  pub stays_long : length (take (i - gone) (drop gone ss)) ≡ i - gone
-  stays_long = length-take-le (i - gone) (drop gone ss) (omega (arith, length-drop gone ss, from, inside))
-
-  pub stays_more : (v : ℕ) → get_or ss i 0 ≡ v → take (i + 1 - gone) (drop gone ss) ≡ take (i - gone) (drop gone ss) ++ (v ∷ [])
-  stays_more v is =
-      let one : i + 1 - gone ≡ (i - gone) + 1 = omega (arith, from) in
-      let back : gone + (i - gone) ≡ i = omega (arith, from) in
-      ap (λ n. take n (drop gone ss)) one ∙ take_more (drop gone ss) (i - gone) 0 (omega (arith, length-drop gone ss, from, inside))
-      ∙ ap (λ w. take (i - gone) (drop gone ss) ++ (w ∷ [])) (get_or-drop gone ss (i - gone) 0 ∙ ap (λ j. get_or ss j 0) back ∙ is)
+-- the settings as far as place i, with the one there
+pub entered_more : (ss : List ℕ) (i v : ℕ) → i < length ss → get_or ss i 0 ≡ v → take (i + 1) ss ≡ take i ss ++ (v ∷ [])
+entered_more ss i v inside is = take_more ss i 0 inside ∙ ap (λ w. take i ss ++ (w ∷ [])) is

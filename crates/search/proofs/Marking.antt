@@ -1,11 +1,11 @@
 -- A mark that is turned over makes a setting marked or takes it back, and leaves every other mark. Assumes nothing.
-use Rattle.std.proofs.Common.{◌≡◌, ℕ, zero, suc, ◌+◌, ◌-◌, ◌/◌, ◌%◌, ◌^◌, ◌<◌, ◌≤◌, min, Bool, true, false, ◌||◌, eqb, ◌≢◌, List, [], ◌∷◌, ◌++◌, length, get_or, drop, replicate, sym, refl, ap, ◌∙◌, subst, ⊎_elim, pow-suc, arith, length-set}
+use Rattle.std.proofs.Common.{◌≡◌, ℕ, zero, suc, ◌+◌, ◌-◌, ◌/◌, ◌%◌, ◌^◌, ◌<◌, ◌≤◌, Bool, true, false, ◌||◌, eqb, ◌≢◌, List, [], ◌∷◌, ◌++◌, length, get_or, drop, replicate, sym, refl, ap, ◌∙◌, subst, ⊎_elim, pow-suc, arith, length-set}
 use native.Mathlib.Nat.{div-eq_of_lt, div_self, mul-mod_left}
 use lib.Bits.{bit_xor, xor_zero_r}
 use lib.ListN.{length-replicate}
 use Rattle.std.proofs.lemmas.Nat.{pow_pos, pow-add, pow_below, shl-shr, mod_below, xor_shr, xor_mod}
-use Rattle.std.proofs.lemmas.List.{drop_all, drop_more, get_or-set_same, get_or-set_other, get_or-replicate}
-use Rattle.std.proofs.lemmas.Bool.{cases_eq, cases_lt, cases_order, eqb-true, eqb-false, eq-eqb, ne_eqb, or_right, true≢false}
+use Rattle.std.proofs.lemmas.List.{drop_more, get_or-set_same, get_or-set_other, get_or-replicate}
+use Rattle.std.proofs.lemmas.Bool.{cases_eq, cases_order, eqb-true, eqb-false, eq-eqb, ne_eqb, or_right, true≢false}
 use Rattle.legs.specs.Layers.{has}
 use Rattle.legs.specs.Laws.{Distinct}
 use Rattle.legs.proofs.Members.{has_here, has_append}
@@ -145,11 +145,3 @@ module _ (memory : List ℕ) (v : ℕ) (past : length memory ≤ v / 32) where
 -- the settings from place i on are the one there and those behind it
 pub next_first : (ss : List ℕ) (i v : ℕ) → i < length ss → get_or ss i 0 ≡ v → drop i ss ≡ v ∷ drop (i + 1) ss
 next_first ss i v h is = drop_more ss i 0 h ∙ ap (λ u. u ∷ drop (i + 1) ss) is
-
--- no more leave than there are
-pub drop_most : (ss : List ℕ) (n p : ℕ) → p ≡ min n (length ss) → drop p ss ≡ drop n ss
-drop_most ss n p e =
-    ⊎_elim
-    (λ low. let is : p ≡ n = omega (arith, e, low) in ap (λ k. drop k ss) is)
-    (λ past. drop_all p ss (omega (arith, e, past)) ∙ sym (drop_all n ss past))
-    (cases_lt n (length ss))

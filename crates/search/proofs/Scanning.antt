@@ -1,30 +1,37 @@
 -- Looking at one record after another finds a setting, or that it is not there. Assumes nothing.
-use Rattle.std.proofs.Common.{◌≡◌, ℕ, zero, suc, ◌+◌, ◌<◌, ◌≤◌, true, false, ◌||◌, eqb, List, [], ◌∷◌, map, length, get_or, drop, sym, ap, ◌∙◌, arith}
-use lib.ListN.{length-map}
-use Rattle.std.proofs.lemmas.List.{drop_more, drop_all, get_or-map}
-use Rattle.std.proofs.lemmas.Bool.{eq-eqb, ne_eqb, or_left, or_right}
+use Rattle.std.proofs.Common.{◌≡◌, ℕ, zero, suc, ◌<◌, Bool, true, false, cond, ◌||◌, eqb, List, [], ◌∷◌, ◌++◌, map, length, get_or, take, drop, Some, None, Option, inl, inr, sym, refl, ap, ◌∙◌, arith}
+use Rattle.std.specs.List.{find, list_any}
+use Rattle.std.proofs.lemmas.List.{get_or-map, drop-map, map-append, take-append-drop}
+use Rattle.std.proofs.lemmas.Bool.{eq-eqb, eqb-true, or_left, or_right}
 use Rattle.legs.specs.Layers.{has}
+use Rattle.search.specs.Walked.{Hit}
 
-module _ {X : Type 0} (f : X → ℕ) (xs : List X) (u : ℕ) where
-  -- a record with another setting is passed over
-  pub passed_over : (i : ℕ) (x : X) → i < length xs → x ≡ get_or xs i x → (f x ≡ u → ⊥) → has (map f (drop (i + 1) xs)) u ≡ has (map f (drop i xs)) u
-  passed_over i x h read ne =
-      let front : drop i xs ≡ x ∷ drop (i + 1) xs = drop_more xs i x h ∙ ap (λ y. y ∷ drop (i + 1) xs) (sym read) in
-      sym (ap (λ ys. has (map f ys) u) front ∙ ap (λ b. b || has (map f (drop (i + 1) xs)) u) (ne_eqb (f x) u ne))
-
-  -- and past the last there is none
-  pub passed_all : (i : ℕ) → length xs ≤ i → has (map f (drop i xs)) u ≡ false
-  passed_all i h = ap (λ ys. has (map f ys) u) (drop_all i xs h)
-
+module _ {X : Type 0} (f : X → ℕ) where
   -- a record's setting is told at its place
-  pub told_here : (i : ℕ) (x : X) → i < length xs → x ≡ get_or xs i x → get_or (map f xs) i 0 ≡ f x
-  told_here i x h read = get_or-map f xs i x 0 h ∙ ap f (sym read)
+  pub told_here : (xs : List X) (i : ℕ) (x : X) → i < length xs → x ≡ get_or xs i x → get_or (map f xs) i 0 ≡ f x
+  told_here xs i x h read = get_or-map f xs i x 0 h ∙ ap f (sym read)
 
-  -- a record with the setting is at its place
-  pub stands_here : (i : ℕ) (x : X) → i < length xs → x ≡ get_or xs i x → f x ≡ u → (i < length (map f xs)) × (get_or (map f xs) i 0 ≡ u)
-  stands_here i x h read is =
-      let long = length-map xs f in
-      (omega arith, told_here i x h read ∙ is)
+  -- a setting is looked for by a test of each record
+  pub has_any : (xs : List X) (u : ℕ) → has (map f xs) u ≡ list_any (λ x. eqb (f x) u) xs
+  has_any [] u = refl
+  has_any (x ∷ xs) u = ap (λ b. eqb (f x) u || b) (has_any xs u)
+
+  -- the first record that passes the test tells the setting
+  pub find_hit : (xs : List X) (u : ℕ) → Hit f xs u (find (λ x. eqb (f x) u) xs)
+  find_hit [] u = refl
+  find_hit (x ∷ xs) u = by (eqb (f x) u) refl (find_hit xs u)
+    where
+      later : (o : Option X) → eqb (f x) u ≡ false → Hit f xs u o → Hit f (x ∷ xs) u o
+      later (Some r) ne h = (inr h.0, h.1)
+      later None ne h = ap (λ b. b || has (map f xs) u) ne ∙ h
+
+      by : (b : Bool) → eqb (f x) u ≡ b → Hit f xs u (find (λ y. eqb (f y) u) xs) → Hit f (x ∷ xs) u (cond b (Some x) (find (λ y. eqb (f y) u) xs))
+      by true is rest = (inl refl, eqb-true (f x) u is)
+      by false ne rest = later (find (λ y. eqb (f y) u) xs) ne rest
+
+-- the settings of the first records, and those behind them
+pub front_and_rest : {X : Type 0} (f : X → ℕ) (n : ℕ) (xs : List X) → map f (take n xs) ++ drop n (map f xs) ≡ map f xs
+front_and_rest f n xs = ap (λ ys. map f (take n xs) ++ ys) (drop-map f n xs) ∙ sym (map-append f (take n xs) (drop n xs)) ∙ ap (map f) (take-append-drop n xs)
 
 -- what stands at a place is there
 pub has_at : (ss : List ℕ) (i u : ℕ) → i < length ss → get_or ss i 0 ≡ u → has ss u ≡ true

@@ -11,8 +11,7 @@ use Rattle.legs.specs.Filling.{filled_more}
 use Rattle.legs.proofs.Filling.{filled_passes, filled_steps, filled_length}
 use Rattle.legs.proofs.Members.{in_getD}
 use Rattle.legs.proofs.Need.{room_layers}
-use Rattle.search.specs.declared.store.Store.{Store}
-use Rattle.search.specs.Stored.{room_of, count, standing, Kept}
+use Rattle.search.specs.Stored.{Store, count, standing, Kept}
 use Rattle.search.specs.Offered.{arriving, Taken}
 use Rattle.search.specs.Stands.{Stands}
 
@@ -23,21 +22,20 @@ drop_further i j xs ys h e =
     ap (λ n. drop n xs) (sym split) ∙ sym (drop-drop (j - i) i xs) ∙ ap (drop (j - i)) e ∙ drop-drop (j - i) i ys ∙ ap (λ n. drop n ys) split
 
 -- kept by one step and then another
-pub kept_on : {R : Type 0} (tells : R → ℕ) (F G : List ℕ → Type 0) (s t u : Store R) → Kept tells F s t → Kept tells G t u → Kept tells G s u
-kept_on tells F G s t u a b =
+pub kept_on : {R : Type 0} (s t u : Store R) → Kept s t → Kept t u → Kept s u
+kept_on s t u a b =
     record {
-      ready = b.ready;
       long = b.long ∙ a.long;
       befores = b.befores ∙ a.befores;
       presents = b.presents ∙ a.presents;
       more = omega (arith, a.more, b.more);
-      behind = b.behind ∙ drop_further (count t) (count u) (room_of t) (room_of s) b.more a.behind;
+      behind = b.behind ∙ drop_further (count t) (count u) t.room s.room b.more a.behind;
     }
 
 module _ {R : Type 0} (m : Meaning) (lawful : Lawful m) (k : Kind R) (t : Tells k) (g : Leg) (d : ℕ) where
   -- records behind those that stand
-  stands_more : (F : List ℕ → Type 0) (s s' : Store R) (nexts rs : List R) → Stands m k g d nexts s → Taken k.setting F s s' rs true → Stands m k g d (nexts ++ rs) s'
-  stands_more F s s' nexts rs a b =
+  stands_more : (s s' : Store R) (nexts rs : List R) → Stands m k g d nexts s → Taken s s' rs true → Stands m k g d (nexts ++ rs) s'
+  stands_more s s' nexts rs a b =
       record {
         layers = b.2 ∙ ap (λ x. x ++ rs) a.layers ∙ append_assoc (layer_before m k g d) (layer m k g d ++ nexts) rs ∙ ap (λ x. layer_before m k g d ++ x) (append_assoc (layer m k g d) nexts rs);
         befores = b.0.befores ∙ a.befores;
@@ -54,13 +52,13 @@ module _ {R : Type 0} (m : Meaning) (lawful : Lawful m) (k : Kind R) (t : Tells 
         ∙ ap (λ xs. filled_more m k g d rs r o ++ cond (has (map k.setting xs) u || not (fits m g (suc d) u)) [] (k.onward (suc d) r u ∷ [])) (sym a.layers)
 
     -- so one operation more is one turn
-    pub turn : (F : List ℕ → Type 0) (s s' : Store R) (o : ℕ) → Stands m k g d (filled_more m k g d rs r o) s → Taken k.setting F s s' (arriving k.setting m g (suc d) (k.onward (suc d) r) s (m.step (k.setting r) o)) true → Stands m k g d (filled_more m k g d rs r (suc o)) s'
-    turn F s s' o a b =
-        subst (λ xs. Stands m k g d xs s') (sym (brings s o (m.step (k.setting r) o) a refl)) (stands_more F s s' (filled_more m k g d rs r o) (arriving k.setting m g (suc d) (k.onward (suc d) r) s (m.step (k.setting r) o)) a b)
+    pub turn : (s s' : Store R) (o : ℕ) → Stands m k g d (filled_more m k g d rs r o) s → Taken s s' (arriving k.setting m g (suc d) (k.onward (suc d) r) s (m.step (k.setting r) o)) true → Stands m k g d (filled_more m k g d rs r (suc o)) s'
+    turn s s' o a b =
+        subst (λ xs. Stands m k g d xs s') (sym (brings s o (m.step (k.setting r) o) a refl)) (stands_more s s' (filled_more m k g d rs r o) (arriving k.setting m g (suc d) (k.onward (suc d) r) s (m.step (k.setting r) o)) a b)
 
     -- and a record without a place is one of the next layer
-    pub no_place : (F : List ℕ → Type 0) (s s' : Store R) (rest : List R) (o : ℕ) → rs ++ (r ∷ rest) ≡ layer m k g d → o < m.operations → Stands m k g d (filled_more m k g d rs r o) s → Taken k.setting F s s' (arriving k.setting m g (suc d) (k.onward (suc d) r) s (m.step (k.setting r) o)) false → length (room_of s) < room m g d
-    no_place F s s' rest o split below a b =
+    pub no_place : (s s' : Store R) (rest : List R) (o : ℕ) → rs ++ (r ∷ rest) ≡ layer m k g d → o < m.operations → Stands m k g d (filled_more m k g d rs r o) s → Taken s s' (arriving k.setting m g (suc d) (k.onward (suc d) r) s (m.step (k.setting r) o)) false → length s.room < room m g d
+    no_place s s' rest o split below a b =
         let news = arriving k.setting m g (suc d) (k.onward (suc d) r) s (m.step (k.setting r) o) in
         let more = ap length (brings s o (m.step (k.setting r) o) a refl) ∙ length-append (filled_more m k g d rs r o) news in
         let front = filled_length m k g d rs r rest (suc o) split below in
@@ -68,14 +66,14 @@ module _ {R : Type 0} (m : Meaning) (lawful : Lawful m) (k : Kind R) (t : Tells 
         omega (arith, more, front, all, b.1, b.2, a.befores, a.presents, a.nexts_are)
 
   -- the record at a place of the present layer
-  module _ (place : ℕ) (s : Store R) (nexts : List R) (r : R) (stands : Stands m k g d nexts s) (below : place < s.present) (within : s.before + s.present + s.next ≤ length (room_of s)) (read : r ≡ get_or (room_of s) (s.before + place) r) where
+  module _ (place : ℕ) (s : Store R) (nexts : List R) (r : R) (stands : Stands m k g d nexts s) (below : place < s.present) (within : s.before + s.present + s.next ≤ length s.room) (read : r ≡ get_or s.room (s.before + place) r) where
     inside : place < length (layer m k g d)
     inside = omega (arith, stands.presents, below)
 
     pub in_place : get_or (layer m k g d) place r ≡ r
     in_place =
         let low : s.before + place < s.before + s.present + s.next = omega arith in
-        let front : get_or (standing s) (s.before + place) r ≡ get_or (room_of s) (s.before + place) r = get_or-take (s.before + s.present + s.next) (room_of s) (s.before + place) r low in
+        let front : get_or (standing s) (s.before + place) r ≡ get_or s.room (s.before + place) r = get_or-take (s.before + s.present + s.next) s.room (s.before + place) r low in
         let less : s.before + place - s.before ≡ place = omega arith in
         sym (read ∙ sym front
         ∙ ap (λ xs. get_or xs (s.before + place) r) stands.layers

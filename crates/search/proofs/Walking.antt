@@ -11,10 +11,9 @@ use Rattle.legs.specs.Legs.{empty, ends, end, room, need}
 use Rattle.legs.proofs.Tells.{layer_settings}
 use Rattle.legs.proofs.Ends.{end_is, below_end}
 use Rattle.legs.proofs.Need.{layer_size, room_layers, need_room}
-use Rattle.search.specs.declared.store.Store.{Store}
-use Rattle.search.specs.Stored.{room_of, count, standing, Ready, Kept, Advanced}
+use Rattle.search.specs.Stored.{Store, count, standing, present_records, Kept, Advanced}
 use Rattle.search.specs.Stands.{Stands}
-use Rattle.search.specs.Walked.{present_records, over, Walked, Hit, AtEnd}
+use Rattle.search.specs.Walked.{over, Walked, Hit, AtEnd}
 use Rattle.search.proofs.Turns.{drop_further}
 
 empty_by_length : (us : List ℕ) → empty us ≡ eqb (length us) 0
@@ -26,9 +25,9 @@ module _ {R : Type 0} (m : Meaning) (lawful : Lawful m) (k : Kind R) (t : Tells 
   pub present_layer : (d : ℕ) (nexts : List R) (s : Store R) → Stands m k g d nexts s → present_records s ≡ layer m k g d
   present_layer d nexts s a =
       let behind : drop s.before (standing s) ≡ layer m k g d ++ nexts = ap (drop s.before) a.layers ∙ drop_at (layer_before m k g d) (layer m k g d ++ nexts) s.before (sym a.befores) in
-      let cut : take (s.present + s.next) (drop s.before (room_of s)) ≡ layer m k g d ++ nexts =
-      sym (drop-take s.before (s.present + s.next) (room_of s)) ∙ ap (λ n. drop s.before (take n (room_of s))) (omega arith) ∙ behind in
-      front_of s.present s.next (drop s.before (room_of s)) nexts a.presents cut
+      let cut : take (s.present + s.next) (drop s.before s.room) ≡ layer m k g d ++ nexts =
+      sym (drop-take s.before (s.present + s.next) s.room) ∙ ap (λ n. drop s.before (take n s.room)) (omega arith) ∙ behind in
+      front_of s.present s.next (drop s.before s.room) nexts a.presents cut
     where
       front_of : (p n : ℕ) (xs nexts : List R) → p ≡ length (layer m k g d) → take (p + n) xs ≡ layer m k g d ++ nexts → take p xs ≡ layer m k g d
       front_of p n xs nexts is e =
@@ -43,8 +42,8 @@ module _ {R : Type 0} (m : Meaning) (lawful : Lawful m) (k : Kind R) (t : Tells 
       ∙ ap (λ b. has (settings m g d) g.target || (b || eqb d g.bound)) none
 
   -- the layers one place nearer to the front are those of the next depth
-  advance_stands : (F : List ℕ → Type 0) (d : ℕ) (s s' : Store R) → Stands m k g d (layer m k g (suc d)) s → Advanced k.setting F s s' → Stands m k g (suc d) [] s'
-  advance_stands F d s s' a b =
+  advance_stands : (d : ℕ) (s s' : Store R) → Stands m k g d (layer m k g (suc d)) s → Advanced s s' → Stands m k g (suc d) [] s'
+  advance_stands d s s' a b =
       record {
         layers =
             b.left ∙ ap (drop s.before) a.layers ∙ drop_at (layer_before m k g d) (layer m k g d ++ layer m k g (suc d)) s.before (sym a.befores)
@@ -67,44 +66,42 @@ module _ {R : Type 0} (m : Meaning) (lawful : Lawful m) (k : Kind R) (t : Tells 
 
   -- one layer more
   pub walked_on :
-      (E F G : List ℕ → Type 0) (s₀ s s₁ s₂ : Store R) (d number used : ℕ) → Walked k.setting E m k g s₀ s d number used → ends m g d ≡ false
-      → Kept k.setting F s s₁ → Stands m k g d (layer m k g (suc d)) s₁ → Advanced k.setting G s₁ s₂
-      → Walked k.setting G m k g s₀ s₂ (suc d) (number + s₁.present) (max used (count s₁))
-  walked_on E F G s₀ s s₁ s₂ d number used w going kept stands gone =
+      (s₀ s s₁ s₂ : Store R) (d number used : ℕ) → Walked m k g s₀ s d number used → ends m g d ≡ false → count s₁ ≤ length s₁.room
+      → Kept s s₁ → Stands m k g d (layer m k g (suc d)) s₁ → Advanced s₁ s₂
+      → Walked m k g s₀ s₂ (suc d) (number + s₁.present) (max used (count s₁))
+  walked_on s₀ s s₁ s₂ d number used w going inside kept stands gone =
       let standing-now = count_room d s₁ stands in
       let low : used ≤ max used (count s₁) = omega arith in
       let high : count s₁ ≤ max used (count s₁) = omega arith in
       record {
-        ready = gone.ready;
         long = gone.long ∙ kept.long ∙ w.long;
-        stands = advance_stands G d s₁ s₂ stands gone;
+        stands = advance_stands d s₁ s₂ stands gone;
         within = below_bound d w.within going;
         open_so_far = λ i h. ⊎_elim (λ l. w.open_so_far i l) (λ l. let e : i ≡ d = omega arith in ap (ends m g) e ∙ going) (cases_lt i d);
         counted = omega (arith, w.counted, kept.presents, w.stands.presents, layer_size m g k t d);
         used_is = omega (arith, w.used_is, standing-now);
-        used_fits = omega (arith, w.used_fits, kept.ready.within, kept.long, w.long);
+        used_fits = omega (arith, w.used_fits, inside, kept.long, w.long);
         behind =
-            drop_further (count s₁) (max used (count s₁)) (room_of s₂) (room_of s₁) high gone.behind
-            ∙ drop_further (count s₁) (max used (count s₁)) (room_of s₁) (room_of s) high kept.behind
-            ∙ drop_further used (max used (count s₁)) (room_of s) (room_of s₀) low w.behind;
+            drop_further (count s₁) (max used (count s₁)) s₂.room s₁.room high gone.behind
+            ∙ drop_further (count s₁) (max used (count s₁)) s₁.room s.room high kept.behind
+            ∙ drop_further used (max used (count s₁)) s.room s₀.room low w.behind;
       }
 
   -- a leg that is not over at its depth goes below its end
-  still_below : (F : List ℕ → Type 0) (s₀ s : Store R) (d number used : ℕ) → Walked k.setting F m k g s₀ s d number used → ends m g d ≡ false → d < end m g
-  still_below F s₀ s d number used w going =
+  still_below : (s₀ s : Store R) (d number used : ℕ) → Walked m k g s₀ s d number used → ends m g d ≡ false → d < end m g
+  still_below s₀ s d number used w going =
       below_end m g d (λ i h. ⊎_elim (λ l. w.open_so_far i l) (λ l. let e : i ≡ d = omega arith in ap (ends m g) e ∙ going) (cases_lt i d))
 
-  pub too_short : (F : List ℕ → Type 0) (s₀ s : Store R) (d number used : ℕ) → Walked k.setting F m k g s₀ s d number used → ends m g d ≡ false → length (room_of s) < room m g d → length (room_of s₀) < need m g
-  too_short F s₀ s d number used w going few = omega (arith, few, w.long, need_room m g d (still_below F s₀ s d number used w going))
+  pub too_short : (s₀ s : Store R) (d number used : ℕ) → Walked m k g s₀ s d number used → ends m g d ≡ false → length s.room < room m g d → length s₀.room < need m g
+  too_short s₀ s d number used w going few = omega (arith, few, w.long, need_room m g d (still_below s₀ s d number used w going))
 
-  pub walked_to_end : (F : List ℕ → Type 0) (s₀ s : Store R) (d number used : ℕ) → Walked k.setting F m k g s₀ s d number used → ends m g d ≡ true → d ≡ end m g
-  walked_to_end F s₀ s d number used w over-now = sym (end_is m g d over-now w.open_so_far)
+  pub walked_to_end : (s₀ s : Store R) (d number used : ℕ) → Walked m k g s₀ s d number used → ends m g d ≡ true → d ≡ end m g
+  walked_to_end s₀ s d number used w over-now = sym (end_is m g d over-now w.open_so_far)
 
   -- and where the first layer stands it begins
-  pub walked_first : (F : List ℕ → Type 0) (s : Store R) → Ready k.setting F s → 1 ≤ length (room_of s) → Stands m k g 0 [] s → Walked k.setting F m k g s s 0 0 1
-  walked_first F s ready some a =
+  pub walked_first : (s : Store R) → 1 ≤ length s.room → Stands m k g 0 [] s → Walked m k g s s 0 0 1
+  walked_first s some a =
       record {
-        ready = ready;
         long = refl;
         stands = a;
         within = omega arith;

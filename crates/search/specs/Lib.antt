@@ -1,5 +1,4 @@
 pub mod Records
-pub mod Places
 pub mod Stored
 pub mod Chained
 pub mod Marked

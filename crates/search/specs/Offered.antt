@@ -2,8 +2,7 @@
 use Rattle.std.specs.Prelude.{◌≡◌, ℕ, ◌+◌, ◌≤◌, Bool, true, false, cond, not, ◌||◌, List, [], ◌∷◌, ◌++◌, map, length, Some, None, Option}
 use Rattle.plant.specs.Meaning.{Meaning}
 use Rattle.legs.specs.Layers.{Leg, has, fits}
-use Rattle.search.specs.declared.store.Store.{Store}
-use Rattle.search.specs.Stored.{room_of, count, standing, Kept}
+use Rattle.search.specs.Stored.{Store, count, standing, Kept}
 
 -- whether a setting is turned away at depth d: a record with it stands already, or it does not fit
 abbrev pub turned_away : {R : Type 0} → (R → ℕ) → Meaning → Leg → ℕ → ℕ → Store R → Bool
@@ -15,8 +14,8 @@ arriving tells m g d new s None = []
 arriving tells m g d new s (Some u) = cond (turned_away tells m g d u s) [] (new u ∷ [])
 
 -- these records have entered behind the others; or there was no place for one of them
-abbrev pub Taken : {R : Type 0} → (R → ℕ) → (List ℕ → Type 0) → Store R → Store R → List R → Bool → Type 0
-Taken tells Follows s s' rs true =
-    Kept tells Follows s s' × (s'.next ≡ s.next + length rs) × (standing s' ≡ standing s ++ rs)
-Taken tells Follows s s' rs false =
-    Kept tells Follows s s' × (1 ≤ length rs) × (length (room_of s) ≡ count s)
+abbrev pub Taken : {R : Type 0} → Store R → Store R → List R → Bool → Type 0
+Taken s s' rs true =
+    Kept s s' × (s'.next ≡ s.next + length rs) × (standing s' ≡ standing s ++ rs)
+Taken s s' rs false =
+    Kept s s' × (1 ≤ length rs) × (length s.room ≡ count s)

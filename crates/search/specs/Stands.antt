@@ -5,8 +5,7 @@ use Rattle.legs.specs.Kinds.{Kind}
 use Rattle.legs.specs.Layers.{Leg, layer, layer_before}
 use Rattle.legs.specs.Filling.{filled}
 use Rattle.legs.specs.Legs.{room}
-use Rattle.search.specs.declared.store.Store.{Store}
-use Rattle.search.specs.Stored.{room_of, standing, Ready, Kept}
+use Rattle.search.specs.Stored.{Store, standing, Kept}
 
 -- the layer before the one at depth d, that layer, and behind them these records of the next
 pub record Stands {R : Type 0} (m : Meaning) (k : Kind R) (g : Leg) (d : ℕ) (nexts : List R) (s : Store R) : Type 0 where
@@ -20,18 +19,17 @@ abbrev pub filled_by : {R : Type 0} → Meaning → Kind R → Leg → ℕ → �
 filled_by m k g d n = filled m k g d (take n (layer m k g d))
 
 -- the next layer is filled by n records; or the slice is too short for what stands while this layer is expanded
-abbrev pub Expanded : {R : Type 0} → (R → ℕ) → (List ℕ → Type 0) → Meaning → Kind R → Leg → ℕ → ℕ → Store R → Store R → Bool → Type 0
-Expanded tells Follows m k g d n s s' true = Kept tells Follows s s' × Stands m k g d (filled_by m k g d n) s'
-Expanded tells Follows m k g d n s s' false = Kept tells Follows s s' × (length (room_of s) < room m g d)
+abbrev pub Expanded : {R : Type 0} → Meaning → Kind R → Leg → ℕ → ℕ → Store R → Store R → Bool → Type 0
+Expanded m k g d n s s' true = Kept s s' × Stands m k g d (filled_by m k g d n) s'
+Expanded m k g d n s s' false = Kept s s' × (length s.room < room m g d)
 
 -- the next layer is complete; or the slice is too short for what stands while this layer is expanded
-abbrev pub Completed : {R : Type 0} → (R → ℕ) → (List ℕ → Type 0) → Meaning → Kind R → Leg → ℕ → Store R → Store R → Bool → Type 0
-Completed tells Follows m k g d s s' true = Kept tells Follows s s' × Stands m k g d (layer m k g (suc d)) s'
-Completed tells Follows m k g d s s' false = Kept tells Follows s s' × (length (room_of s) < room m g d)
+abbrev pub Completed : {R : Type 0} → Meaning → Kind R → Leg → ℕ → Store R → Store R → Bool → Type 0
+Completed m k g d s s' true = Kept s s' × Stands m k g d (layer m k g (suc d)) s'
+Completed m k g d s s' false = Kept s s' × (length s.room < room m g d)
 
 -- the first layer stands, and nothing is changed behind one record
-pub record Begun {R : Type 0} (tells : R → ℕ) (Follows : List ℕ → Type 0) (m : Meaning) (k : Kind R) (g : Leg) (s s' : Store R) : Type 0 where
-  pub ready : Ready tells Follows s'
-  pub long : length (room_of s') ≡ length (room_of s)
+pub record Begun {R : Type 0} (m : Meaning) (k : Kind R) (g : Leg) (s s' : Store R) : Type 0 where
+  pub long : length s'.room ≡ length s.room
   pub stands : Stands m k g 0 [] s'
-  pub behind : drop 1 (room_of s') ≡ drop 1 (room_of s)
+  pub behind : drop 1 s'.room ≡ drop 1 s.room

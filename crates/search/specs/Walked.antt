@@ -1,40 +1,34 @@
 -- Where a leg has come to, and where it ends. Assumes nothing.
-use Rattle.std.specs.Prelude.{◌≡◌, ℕ, ◌<◌, ◌≤◌, Bool, false, ◌||◌, List, [], map, length, take, drop, Some, None, Option, ◌==◌}
+use Rattle.std.specs.Prelude.{◌≡◌, ℕ, ◌<◌, ◌≤◌, Bool, false, ◌||◌, List, [], map, length, drop, Some, None, Option, ◌==◌}
 use Rattle.plant.specs.Meaning.{Meaning}
 use Rattle.legs.specs.Kinds.{Kind}
 use Rattle.legs.specs.Layers.{Leg, has, In, layer, settings}
 use Rattle.legs.specs.Legs.{ends, end, sizes, expanded, most_room, need}
-use Rattle.search.specs.declared.store.Store.{Store}
 use Rattle.search.specs.declared.walk.Ended.{Ended}
 use Rattle.search.specs.declared.one_leg.Walk.{Walk}
-use Rattle.search.specs.Stored.{room_of, Ready}
+use Rattle.search.specs.Stored.{Store, present_records}
 use Rattle.search.specs.Stands.{Stands}
-
--- the present layer as it stands in the slice
-abbrev pub present_records : {R : Type 0} → Store R → List R
-present_records s = take s.present (drop s.before (room_of s))
 
 -- the present layer holds the target, is empty, or is at the bound
 abbrev pub over : {R : Type 0} → (R → ℕ) → Store R → Leg → ℕ → Bool
 over tells s g d = has (map tells (present_records s)) g.target || (s.present == 0 || d == g.bound)
 
 -- the leg has come to depth d without ending, with these settings expanded and so many records used
-pub record Walked {R : Type 0} (tells : R → ℕ) (Follows : List ℕ → Type 0) (m : Meaning) (k : Kind R) (g : Leg) (s s' : Store R) (d number used : ℕ) : Type 0 where
-  pub ready : Ready tells Follows s'
-  pub long : length (room_of s') ≡ length (room_of s)
+pub record Walked {R : Type 0} (m : Meaning) (k : Kind R) (g : Leg) (s s' : Store R) (d number used : ℕ) : Type 0 where
+  pub long : length s'.room ≡ length s.room
   pub stands : Stands m k g d [] s'
   pub within : d ≤ g.bound
   pub open_so_far : (i : ℕ) → i < d → ends m g i ≡ false
   pub counted : number ≡ sizes m g d
   pub used_is : used ≡ most_room m g d
-  pub used_fits : used ≤ length (room_of s)
-  pub behind : drop used (room_of s') ≡ drop used (room_of s)
+  pub used_fits : used ≤ length s.room
+  pub behind : drop used s'.room ≡ drop used s.room
 
 -- the leg has ended where it ends, with what it expands and needs; or it needs more than there is
-abbrev pub Ran : {R : Type 0} → (R → ℕ) → (List ℕ → Type 0) → Meaning → Kind R → Leg → Store R → Store R → Option Ended → Type 0
-Ran tells Follows m k g s s' (Some e) =
-    Walked tells Follows m k g s s' e.depth e.expanded e.used × (e.depth ≡ end m g)
-Ran tells Follows m k g s s' None = Ready tells Follows s' × (length (room_of s') ≡ length (room_of s)) × (length (room_of s) < need m g)
+abbrev pub Ran : {R : Type 0} → Meaning → Kind R → Leg → Store R → Store R → Option Ended → Type 0
+Ran m k g s s' (Some e) =
+    Walked m k g s s' e.depth e.expanded e.used × (e.depth ≡ end m g)
+Ran m k g s s' None = (length s'.room ≡ length s.room) × (length s.room < need m g)
 
 -- a record among these that tells the setting, or none where none does
 abbrev pub Hit : {R : Type 0} → (R → ℕ) → List R → ℕ → Option R → Type 0

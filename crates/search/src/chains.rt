@@ -16,7 +16,7 @@ pub(crate) struct Chains<'a> {
 }
 
 // The most links, and the most heads.
-const MOST: usize = 4294967295;
+const MOST: usize = u32::MAX as usize;
 
 // The factor that spreads settings which lie close together over all numbers of 32 bits.
 const SPREAD: u32 = 2654435769;
@@ -71,13 +71,12 @@ impl<'a> Chains<'a> {
         self.memory[place] as usize
     }
 
-    // Enters the records behind the first ones, so many, at the places to which they move down.
-    fn link_again<R: Record>(&mut self, records: &[R], gone: usize)
-        ensures { Follows self.old (map R.Record.tells records.now) → Follows self.new (drop gone (map R.Record.tells records.now)) }
+    // Enters these records and no others, from the first place on.
+    fn link_again<R: Record>(&mut self, records: &[R])
+        ensures { (ss : List ℕ) → Follows self.old ss → Follows self.new (map R.Record.tells records.now) }
     {
-        for place in gone..records.len() {
-            let record = records[place];
-            self.link(place - gone, record.setting());
+        for (place, record) in records.iter().enumerate() {
+            self.link(place, record.setting());
         }
     }
 }
@@ -113,8 +112,6 @@ impl<'a, R: Record> Lookup<R> for Chains<'a> {
     }
 
     fn lower(&mut self, records: &[R], gone: usize) {
-        self.link_again(records, gone);
+        self.link_again(&records[gone..]);
     }
-
-    fn clear(&mut self, _records: &[R]) {}
 }

@@ -1,8 +1,7 @@
 // Zero in every record, after a search.
-ghost use Rattle.std.specs.Prelude.{◌≡◌, length, replicate};
+ghost use Rattle.std.specs.Prelude.{◌≡◌, ◌≤◌, ◌++◌, length, drop, replicate};
 ghost use Rattle.search.specs.Answered.{left_by};
 
-use crate::one_leg::blank_front;
 use crate::record::Record;
 use plant::refusal::Refusal;
 
@@ -10,17 +9,23 @@ use plant::refusal::Refusal;
 pub fn clear_all<R: Record>(records: &mut [R])
     ensures { records.new ≡ replicate (length records.old) R.Record.blank }
 {
-    let all = records.len();
-    blank_front(records, all);
+    let blank = R::zero();
+    records.fill_with(|| blank);
+}
+
+// Zero in the first records, so many.
+pub(crate) fn blank_front<R: Record>(records: &mut [R], count: usize)
+    requires { count ≤ length records.old }
+    ensures { records.new ≡ replicate count R.Record.blank ++ drop count records.old }
+{
+    clear_all(&mut records[0..count]);
 }
 
 // Leaves zero in every record after a refusal that comes from a search, and the records as they were after any other.
 pub fn clear_after<R: Record>(refusal: Refusal, records: &mut [R])
     ensures { records.new ≡ left_by R.Record.blank refusal records.old }
 {
-    match refusal {
-        Refusal::Overfull => clear_all(records),
-        Refusal::OutOfReach => clear_all(records),
-        _ => {}
+    if matches!(refusal, Refusal::Overfull | Refusal::OutOfReach) {
+        clear_all(records);
     }
 }

@@ -1,18 +1,20 @@
 // The search of one leg, over any plant and any kind of record: the call that measures and plans are made of.
 ghost use Rattle.std.specs.Prelude.{◌≡◌, ◌<◌, ◌≤◌, length};
-ghost use Rattle.legs.specs.Asked.{asked};
+ghost use Rattle.std.specs.Result.{result_ok};
 ghost use Rattle.legs.specs.Legs.{need};
 ghost use Rattle.search.specs.Records.{kind};
-ghost use Rattle.search.specs.Leg.{leg_of};
+ghost use Rattle.legs.specs.Asked.{asked};
 ghost use Rattle.search.specs.Walked.{RunThrough};
 ghost use Rattle.search.specs.Answered.{LegAnswer, leg_leaves, Searched, zeroed};
 
 use crate::chains::Chains;
-use crate::leg::Leg as Halved;
+use crate::clear::{blank_front, clear_all};
 use crate::lookup::Scan;
 use crate::marks::Marks;
-use crate::one_leg::{Walk, blank_front, walk_leg};
+use crate::one_leg::{Walk, walk_leg};
+use crate::overfull::Overfull;
 use crate::record::Record;
+use crate::task::Task;
 use legs::leg::Leg;
 use plant::plant::Plant;
 use plant::refusal::Refusal;
@@ -53,45 +55,30 @@ pub fn search_leg<P: Plant, R: Record>(
     if leg.bound > MOST {
         return Err(Refusal::Bound);
     }
-    let halved = Halved {
-        start: leg.start,
-        target: leg.target,
-        bound: leg.bound,
-        half,
-    };
-    search_within(plant, &halved, records, index)
+    search_within(Task { plant, leg, half }, records, index)
 }
 
 // The search, where start, target and bound are in range.
 fn search_within<P: Plant, R: Record>(
-    plant: &P,
-    leg: &Halved,
+    task: Task<P>,
     records: &mut [R],
     index: &mut [u32],
 ) -> Result<Reached<R>, Refusal>
-    requires start { leg.now.start < (P.meaning plant.now).settings }
-    requires bound { leg.now.bound ≤ 255 }
-    ensures answer { Searched (P.meaning plant.now) (kind R.Record.tells R.Record.opens R.Record.carries leg.now.half) (leg_of leg.now) (length records.old) result }
-    ensures records { records.new ≡ zeroed R.Record.blank (need (P.meaning plant.now) (leg_of leg.now)) records.old }
+    ensures answer { Searched (P.meaning task.entry.plant.now) (kind R.Record.tells R.Record.opens R.Record.carries task.entry.half) (asked task.entry.leg) (length records.old) result }
+    ensures records { records.new ≡ zeroed R.Record.blank (need (P.meaning task.entry.plant.now) (asked task.entry.leg)) records.old }
 {
-    let all = records.len();
-    if all == 0 {
-        return Err(Refusal::Overfull);
-    }
-    match walk_by(plant, leg, records, index) {
-        Some(Walk { ended, hit }) => {
+    match walk_by(task, records, index) {
+        Ok(Walk { ended, hit }) => {
             blank_front(records, ended.used);
-            match hit {
-                Some(record) => Ok(Reached {
-                    length: ended.depth,
-                    expanded: ended.expanded,
-                    record,
-                }),
-                None => Err(Refusal::OutOfReach),
-            }
+            let record = hit.ok_or(Refusal::OutOfReach)?;
+            Ok(Reached {
+                length: ended.depth,
+                expanded: ended.expanded,
+                record,
+            })
         }
-        None => {
-            blank_front(records, all);
+        Err(Overfull) => {
+            clear_all(records);
             Err(Refusal::Overfull)
         }
     }
@@ -101,25 +88,21 @@ fn search_within<P: Plant, R: Record>(
 // plant, else chains where it has more numbers than there are records, else record by record. For chains to be short,
 // lend two to three times as many numbers as records.
 fn walk_by<P: Plant, R: Record>(
-    plant: &P,
-    leg: &Halved,
+    task: Task<P>,
     records: &mut [R],
     index: &mut [u32],
-) -> Option<Walk<R>>
-    requires start { leg.now.start < (P.meaning plant.now).settings }
-    requires bound { leg.now.bound ≤ 255 }
-    requires some { 1 ≤ length records.old }
-    ensures { RunThrough (P.meaning plant.now) (kind R.Record.tells R.Record.opens R.Record.carries leg.now.half) (leg_of leg.now) records.old records.new result }
+) -> Result<Walk<R>, Overfull>
+    ensures { RunThrough (P.meaning task.entry.plant.now) (kind R.Record.tells R.Record.opens R.Record.carries task.entry.half) (asked task.entry.leg) records.old records.new (result_ok result) }
 {
-    let words = (plant.settings() as usize + 31) / 32;
+    let words = (task.plant.settings() as usize + 31) / 32;
     if words <= index.len() {
         let mut marks = Marks::over(&mut index[0..words]);
-        return walk_leg(plant, leg, records, &mut marks);
+        return walk_leg(task, records, &mut marks);
     }
     let count = records.len();
     if count < index.len() {
         let mut chains = Chains::over(index, count);
-        return walk_leg(plant, leg, records, &mut chains);
+        return walk_leg(task, records, &mut chains);
     }
-    walk_leg(plant, leg, records, &mut Scan)
+    walk_leg(task, records, &mut Scan)
 }

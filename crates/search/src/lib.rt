@@ -4,12 +4,14 @@
 pub mod chains;
 pub mod clear;
 pub mod fill;
-pub mod leg;
 pub mod leg_search;
 pub mod lookup;
 pub mod marks;
 pub mod moves;
 pub mod one_leg;
+pub mod overfull;
 pub mod record;
-pub mod store;
+pub mod search;
+pub mod sizes;
+pub mod task;
 pub mod walk;

@@ -1,19 +1,18 @@
 // How a setting is looked up among the records of a workspace: one interface, so that the search above is proved once
-// over every way of looking. What looks up is told when a record enters, when the layers move down and when they are
-// cleared, so that an index in memory of its own can follow.
-ghost use Rattle.std.specs.Prelude.{◌≡◌, ℕ, false, List, [], ◌∷◌, ◌++◌, map, length, drop};
+// over every way of looking. What looks up is told when a record enters and when the layers move down, so that an index in
+// memory of its own can follow.
+ghost use Rattle.std.specs.Prelude.{◌≡◌, ℕ, ◌≤◌, false, List, [], ◌∷◌, ◌++◌, map, length, drop};
 ghost use Rattle.legs.specs.Layers.{has};
-ghost use Rattle.search.specs.Places.{Place};
 
 use crate::record::Record;
 
-pub(crate) trait Lookup<R: Record> {
+pub(crate) trait Lookup<R: Record>: Drop {
     // it follows records of these settings, in the order of their places
     ghost follows: { Self → List ℕ → Type 0 };
 
     // Whether one of the records has this setting.
     fn meets(&self, records: &[R], setting: u32) -> bool
-        requires { follows self.now (map R.Record.tells records.now) }
+        requires { ∥ follows self.now (map R.Record.tells records.now) ∥₁ }
         ensures { result ≡ has (map R.Record.tells records.now) setting };
 
     // A record with this setting, which none of the others has, has entered behind them, at this place.
@@ -22,11 +21,8 @@ pub(crate) trait Lookup<R: Record> {
 
     // The first of these records leave, so many, and the others move down to the front.
     fn lower(&mut self, records: &[R], gone: usize)
+        requires { gone ≤ length records.now }
         ensures { follows self.old (map R.Record.tells records.now) → follows self.new (drop gone (map R.Record.tells records.now)) };
-
-    // All of these records leave.
-    fn clear(&mut self, records: &[R])
-        ensures { follows self.old (map R.Record.tells records.now) → follows self.new [] };
 }
 
 // Looks at every record. It keeps nothing, so there is nothing to follow.
@@ -43,28 +39,28 @@ impl<R: Record> Lookup<R> for Scan {
     fn enter(&mut self, _place: usize, _setting: u32) {}
 
     fn lower(&mut self, _records: &[R], _gone: usize) {}
+}
 
-    fn clear(&mut self, _records: &[R]) {}
+// What is lent follows as it does where it is.
+impl<R: Record, L: Lookup<R>> Lookup<R> for &mut L {
+    ghost follows = { λ l ss. L.Lookup.follows l.now ss };
+
+    fn meets(&self, records: &[R], setting: u32) -> bool {
+        (**self).meets(records, setting)
+    }
+
+    fn enter(&mut self, place: usize, setting: u32) {
+        (**self).enter(place, setting);
+    }
+
+    fn lower(&mut self, records: &[R], gone: usize) {
+        (**self).lower(records, gone);
+    }
 }
 
 // Whether one of these records has the setting.
 pub(crate) fn stands<R: Record>(records: &[R], setting: u32) -> bool
     ensures { result ≡ has (map R.Record.tells records.now) setting }
 {
-    match first_place(records, setting) {
-        Some(_) => true,
-        None => false,
-    }
-}
-
-// The first place of a record with this setting.
-pub(crate) fn first_place<R: Record>(records: &[R], setting: u32) -> Option<usize>
-    ensures { Place (map R.Record.tells records.now) setting result }
-{
-    for (place, record) in records.iter().enumerate() {
-        if record.setting() == setting {
-            return Some(place);
-        }
-    }
-    None
+    records.iter().any(|record| record.setting() == setting)
 }

@@ -17,9 +17,7 @@ impl<'a> Marks<'a> {
     pub(crate) fn over(memory: &'a mut [u32]) -> Marks<'a>
         ensures { Follows result [] }
     {
-        for word in memory.iter_mut() {
-            *word = 0;
-        }
+        memory.fill(0);
         Marks { memory }
     }
 
@@ -32,17 +30,14 @@ impl<'a> Marks<'a> {
         if word >= self.memory.len() {
             return;
         }
-        let old = self.memory[word];
-        self.memory[word] = old ^ (1 << (setting % 32));
+        self.memory[word] ^= 1 << (setting % 32);
     }
 
-    // Takes back the marks of the first of these records, so many.
-    fn take_back<R: Record>(&mut self, records: &[R], count: usize)
-        ensures { Follows self.old (map R.Record.tells records.now) → Follows self.new (drop count (map R.Record.tells records.now)) }
+    // Takes back the marks of these records.
+    fn take_back<R: Record>(&mut self, records: &[R])
+        ensures { (ss : List ℕ) → Follows self.old (map R.Record.tells records.now ++ ss) → Follows self.new ss }
     {
-        let most = count.min(records.len());
-        for place in 0..most {
-            let record = records[place];
+        for record in records {
             self.turn(record.setting());
         }
     }
@@ -52,11 +47,10 @@ impl<'a, R: Record> Lookup<R> for Marks<'a> {
     ghost follows = { Follows };
 
     fn meets(&self, records: &[R], setting: u32) -> bool {
-        let word = (setting / 32) as usize;
-        if word >= self.memory.len() {
-            return stands(records, setting);
+        match self.memory.get((setting / 32) as usize) {
+            Some(word) => (*word >> (setting % 32)) % 2 == 1,
+            None => stands(records, setting),
         }
-        (self.memory[word] >> (setting % 32)) % 2 == 1
     }
 
     fn enter(&mut self, _place: usize, setting: u32) {
@@ -64,10 +58,6 @@ impl<'a, R: Record> Lookup<R> for Marks<'a> {
     }
 
     fn lower(&mut self, records: &[R], gone: usize) {
-        self.take_back(records, gone);
-    }
-
-    fn clear(&mut self, records: &[R]) {
-        self.take_back(records, records.len());
+        self.take_back(&records[..gone]);
     }
 }

@@ -1,10 +1,12 @@
 // The layers move down: the layer before is given up, and what stands behind it moves to the front.
 ghost use Rattle.std.specs.Prelude.{◌≡◌, ◌-◌, ◌≤◌, map, length, take, drop};
-ghost use Rattle.search.specs.Stored.{standing, Ready, Advanced};
+ghost use Rattle.search.specs.Stored.{stored, store_of, count, standing, Advanced};
 
 use crate::lookup::Lookup;
 use crate::record::Record;
-use crate::store::Store;
+use crate::search::Search;
+use crate::sizes::Sizes;
+use plant::plant::Plant;
 
 // Moves the first `count` records down by `gone` places; those that leave are found behind the others.
 fn move_down<R: Record>(room: &mut [R], count: usize, gone: usize)
@@ -16,29 +18,30 @@ fn move_down<R: Record>(room: &mut [R], count: usize, gone: usize)
     room[0..count].rotate_left(gone);
 }
 
-impl<'a, R: Record> Store<'a, R> {
-    // Tells the lookup that the layer before leaves.
-    fn tell_leaving<L: Lookup<R>>(&self, lookup: &mut L)
-        requires { Ready R.Record.tells (L.Lookup.follows lookup.old) self.now }
-        ensures { L.Lookup.follows lookup.new (drop self.now.before (map R.Record.tells (standing self.now))) }
-    {
-        let count = self.before + self.present + self.next;
-        let gone = self.before;
-        lookup.lower(&self.room[0..count], gone);
-    }
+// Gives the layer before up, and tells the lookup that it leaves: the present layer is now before, and the next one
+// present.
+fn give_up<R: Record, L: Lookup<R>>(room: &mut [R], sizes: &mut Sizes, lookup: &mut L)
+    requires { count (stored room.old sizes.old) ≤ length room.old }
+    ensures advanced { Advanced (stored room.old sizes.old) (stored room.new sizes.new) }
+    ensures follows { L.Lookup.follows lookup.old (map R.Record.tells (standing (stored room.old sizes.old))) → L.Lookup.follows lookup.new (map R.Record.tells (standing (stored room.new sizes.new))) }
+{
+    let count = sizes.before + sizes.present + sizes.next;
+    lookup.lower(&room[0..count], sizes.before);
+    move_down(room, count, sizes.before);
+    *sizes = Sizes {
+        before: sizes.present,
+        present: sizes.next,
+        next: 0,
+    };
+}
 
-    // Gives the layer before up: the present layer is now before, and the next one present.
-    pub(crate) fn advance<L: Lookup<R>>(&mut self, lookup: &mut L)
-        requires { Ready R.Record.tells (L.Lookup.follows lookup.old) self.old }
-        ensures advanced { Advanced R.Record.tells (L.Lookup.follows lookup.new) self.old self.new }
+impl<'p, 'a, P: Plant, R: Record, L: Lookup<R>> Search<'p, 'a, P, R, L> {
+    // Gives the layer before up.
+    pub(crate) fn advance(&mut self)
+        ensures advanced { Advanced (store_of self.old) (store_of self.new) }
+        ensures task { self.new.task ≡ self.old.task }
         ensures lender { self.new.room.ghost_name ≡ self.old.room.ghost_name }
     {
-        self.tell_leaving(lookup);
-        let count = self.before + self.present + self.next;
-        let gone = self.before;
-        move_down(self.room, count, gone);
-        self.before = self.present;
-        self.present = self.next;
-        self.next = 0;
+        give_up(self.room, &mut self.sizes, &mut self.lookup);
     }
 }

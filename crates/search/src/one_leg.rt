@@ -1,58 +1,18 @@
 // One leg searched in records that the caller lends: its length, what it expands, and the record of its target.
-ghost use Rattle.std.specs.Prelude.{◌≡◌, ◌<◌, ◌≤◌, [], ◌++◌, length, drop, replicate};
+ghost use Rattle.std.specs.Prelude.{[]};
+ghost use Rattle.std.specs.Result.{result_ok};
 ghost use Rattle.search.specs.Records.{kind};
-ghost use Rattle.search.specs.Leg.{leg_of};
-ghost use Rattle.search.specs.Stored.{room_of, count, Ready, standing};
-ghost use Rattle.search.specs.Stands.{Stands};
-ghost use Rattle.search.specs.Walked.{present_records, Hit, RunThrough};
+ghost use Rattle.legs.specs.Asked.{asked};
+ghost use Rattle.search.specs.Walked.{RunThrough};
 
-use crate::leg::Leg;
-use crate::lookup::{Lookup, first_place};
+use crate::lookup::Lookup;
+use crate::overfull::Overfull;
 use crate::record::Record;
-use crate::store::Store;
+use crate::search::Search;
+use crate::sizes::Sizes;
+use crate::task::Task;
 use crate::walk::Ended;
 use plant::plant::Plant;
-
-// The first of these records that tells the setting.
-fn first_record<R: Record>(records: &[R], setting: u32) -> Option<R>
-    ensures { Hit R.Record.tells records.now setting result }
-{
-    match first_place(records, setting) {
-        Some(place) => Some(records[place]),
-        None => None,
-    }
-}
-
-impl<'a, R: Record> Store<'a, R> {
-    // The record of a setting in the present layer.
-    pub(crate) fn record_of(&self, setting: u32) -> Option<R>
-        requires { count self.now ≤ length (room_of self.now) }
-        ensures { Hit R.Record.tells (present_records self.now) setting result }
-    {
-        let front = self.before;
-        let end = self.before + self.present;
-        first_record(&self.room[front..end], setting)
-    }
-
-    // Tells the lookup that all records leave.
-    pub(crate) fn tell_cleared<L: Lookup<R>>(&self, lookup: &mut L)
-        requires { Ready R.Record.tells (L.Lookup.follows lookup.old) self.now }
-        ensures { L.Lookup.follows lookup.new [] }
-    {
-        let count = self.before + self.present + self.next;
-        lookup.clear(&self.room[0..count]);
-    }
-}
-
-// Zero in the first records, so many.
-pub(crate) fn blank_front<R: Record>(records: &mut [R], count: usize)
-    requires { count ≤ length records.old }
-    ensures { records.new ≡ replicate count R.Record.blank ++ drop count records.old }
-{
-    for place in 0..count {
-        records[place] = R::zero();
-    }
-}
 
 // A leg that has ended, and the record of its target if the last layer holds it.
 pub(crate) struct Walk<R> {
@@ -60,34 +20,30 @@ pub(crate) struct Walk<R> {
     pub(crate) hit: Option<R>,
 }
 
-// Walks the leg. None where the records are too few.
+// Walks the leg.
 pub(crate) fn walk_leg<P: Plant, R: Record, L: Lookup<R>>(
-    plant: &P,
-    leg: &Leg,
+    task: Task<P>,
     records: &mut [R],
     lookup: &mut L,
-) -> Option<Walk<R>>
-    requires follows { L.Lookup.follows lookup.old [] }
-    requires start { leg.now.start < (P.meaning plant.now).settings }
-    requires bound { leg.now.bound ≤ 255 }
-    requires some { 1 ≤ length records.old }
-    ensures run { RunThrough (P.meaning plant.now) (kind R.Record.tells R.Record.opens R.Record.carries leg.now.half) (leg_of leg.now) records.old records.new result }
-    ensures cleared { L.Lookup.follows lookup.new [] }
+) -> Result<Walk<R>, Overfull>
+    requires { L.Lookup.follows lookup.old [] }
+    ensures { RunThrough (P.meaning task.entry.plant.now) (kind R.Record.tells R.Record.opens R.Record.carries task.entry.half) (asked task.entry.leg) records.old records.new (result_ok result) }
 {
-    let mut store = Store {
+    let target = task.leg.target;
+    let mut search = Search {
+        task,
         room: records,
-        before: 0,
-        present: 0,
-        next: 0,
+        sizes: Sizes {
+            before: 0,
+            present: 0,
+            next: 0,
+        },
+        lookup,
     };
-    store.begin(lookup, plant, leg);
-    let end = store.run(lookup, plant, leg);
-    store.tell_cleared(lookup);
-    match end {
-        Some(ended) => Some(Walk {
-            ended,
-            hit: store.record_of(leg.target),
-        }),
-        None => None,
-    }
+    search.begin()?;
+    let ended = search.run()?;
+    Ok(Walk {
+        ended,
+        hit: search.record_of(target),
+    })
 }

@@ -97,9 +97,6 @@ impl Record for Relayed {
     }
 
     fn zero() -> Relayed {
-        Relayed {
-            setting: 0,
-            relay: 0,
-        }
+        Relayed::default()
     }
 }

@@ -1,16 +1,13 @@
 // A leg from its first layer to its end.
-ghost use Rattle.std.specs.Prelude.{◌≡◌, ◌<◌, ◌≤◌, [], map, length, take, drop};
-ghost use Rattle.search.specs.Places.{Place};
+ghost use Rattle.std.specs.Prelude.{◌≡◌, ◌≤◌, [], length, OnOk, OnErr};
+ghost use Rattle.std.specs.Result.{result_ok};
 ghost use Rattle.search.specs.Records.{kind};
-ghost use Rattle.search.specs.Leg.{leg_of};
-ghost use Rattle.search.specs.Stored.{room_of, count, Ready};
-ghost use Rattle.search.specs.Stands.{Stands, Begun};
-ghost use Rattle.search.specs.Walked.{over, Ran};
+ghost use Rattle.legs.specs.Asked.{asked};
 
-use crate::leg::Leg;
-use crate::lookup::{Lookup, first_place};
+use crate::lookup::{Lookup, stands};
+use crate::overfull::Overfull;
 use crate::record::Record;
-use crate::store::Store;
+use crate::search::Search;
 use plant::plant::Plant;
 
 // Where a leg ended: the depth, the settings expanded, and the most records that stood at a time.
@@ -21,77 +18,59 @@ pub(crate) struct Ended {
     pub(crate) used: usize,
 }
 
-impl<'a, R: Record> Store<'a, R> {
-    // The first layer: the start, if it fits.
-    pub(crate) fn begin<P: Plant, L: Lookup<R>>(&mut self, lookup: &mut L, plant: &P, leg: &Leg)
-        requires ready { Ready R.Record.tells (L.Lookup.follows lookup.old) self.old }
-        requires empty { count self.old ≡ 0 }
-        requires some { 1 ≤ length (room_of self.old) }
-        ensures begun { Begun R.Record.tells (L.Lookup.follows lookup.new) (P.meaning plant.now) (kind R.Record.tells R.Record.opens R.Record.carries leg.now.half) (leg_of leg.now) self.old self.new }
+impl<'p, 'a, P: Plant, R: Record, L: Lookup<R>> Search<'p, 'a, P, R, L> {
+    ghost use Rattle.search.specs.Stored.{store_of, count};
+    ghost use Rattle.search.specs.Stands.{Stands, Begun};
+    ghost use Rattle.search.specs.Walked.{over, Ran};
+
+    // The first layer: the start, if it fits. A leg needs one record at least.
+    pub(crate) fn begin(&mut self) -> Result<(), Overfull>
+        requires { count (store_of self.old) ≡ 0 }
+        ensures begun { OnOk result (Begun (P.meaning self.old.task.plant.now) (kind R.Record.tells R.Record.opens R.Record.carries self.old.task.half) (asked self.old.task.leg) (store_of self.old) (store_of self.new)) }
+        ensures some { OnOk result (1 ≤ length self.old.room.now) }
+        ensures none { OnErr result (length self.old.room.now ≡ 0) }
+        ensures task { self.new.task ≡ self.old.task }
         ensures lender { self.new.room.ghost_name ≡ self.old.room.ghost_name }
     {
-        if leg.admits(plant, 0, leg.start) {
-            let _ = self.push(lookup, R::open(leg.start));
-            self.present = 1;
-            self.next = 0;
+        if self.room.len() == 0 {
+            return Err(Overfull);
         }
-    }
-
-    // The place of a setting in the present layer.
-    pub(crate) fn find(&self, setting: u32) -> Option<usize>
-        requires { count self.now ≤ length (room_of self.now) }
-        ensures { Place (map R.Record.tells (take self.now.present (drop self.now.before (room_of self.now)))) setting result }
-    {
-        let front = self.before;
-        let end = self.before + self.present;
-        first_place(&self.room[front..end], setting)
+        let start = self.task.leg.start;
+        if self.admits(0, start) {
+            self.push(R::open(start))?;
+            self.sizes.next = 0;
+            self.sizes.present = 1;
+        }
+        Ok(())
     }
 
     // Whether a leg that has come to this depth ends there: the layer holds the target, is empty, or is at the bound.
-    pub(crate) fn ended(&self, leg: &Leg, depth: u16) -> bool
-        requires { count self.now ≤ length (room_of self.now) }
-        ensures { result ≡ over R.Record.tells self.now (leg_of leg.now) depth }
+    fn ended(&self, depth: u16) -> bool
+        ensures { result ≡ over R.Record.tells (store_of self.now) (asked self.now.task.leg) depth }
     {
-        if self.present == 0 {
-            return true;
-        }
-        if depth == leg.bound {
-            return true;
-        }
-        match self.find(leg.target) {
-            Some(_) => true,
-            None => false,
-        }
+        let leg = self.task.leg;
+        self.sizes.present == 0 || depth == leg.bound || stands(self.present_layer(), leg.target)
     }
 
-    // Goes on from the first layer to the leg's end. None where the slice is too short.
-    pub(crate) fn run<P: Plant, L: Lookup<R>>(
-        &mut self,
-        lookup: &mut L,
-        plant: &P,
-        leg: &Leg,
-    ) -> Option<Ended>
-        requires ready { Ready R.Record.tells (L.Lookup.follows lookup.old) self.old }
-        requires start { leg.now.start < (P.meaning plant.now).settings }
-        requires bound { leg.now.bound ≤ 255 }
-        requires some { 1 ≤ length (room_of self.old) }
-        requires stands { Stands (P.meaning plant.now) (kind R.Record.tells R.Record.opens R.Record.carries leg.now.half) (leg_of leg.now) 0 [] self.old }
-        ensures ran { Ran R.Record.tells (L.Lookup.follows lookup.new) (P.meaning plant.now) (kind R.Record.tells R.Record.opens R.Record.carries leg.now.half) (leg_of leg.now) self.old self.new result }
+    // Goes on from the first layer to the leg's end.
+    pub(crate) fn run(&mut self) -> Result<Ended, Overfull>
+        requires some { 1 ≤ length self.old.room.now }
+        requires stands { Stands (P.meaning self.old.task.plant.now) (kind R.Record.tells R.Record.opens R.Record.carries self.old.task.half) (asked self.old.task.leg) 0 [] (store_of self.old) }
+        ensures ran { Ran (P.meaning self.old.task.plant.now) (kind R.Record.tells R.Record.opens R.Record.carries self.old.task.half) (asked self.old.task.leg) (store_of self.old) (store_of self.new) (result_ok result) }
+        ensures task { self.new.task ≡ self.old.task }
         ensures lender { self.new.room.ghost_name ≡ self.old.room.ghost_name }
     {
         let mut depth = 0u16;
         let mut expanded = 0u64;
         let mut used = 1usize;
-        while !self.ended(leg, depth) {
-            if !self.expand_layer(lookup, plant, leg, depth) {
-                return None;
-            }
-            expanded += self.present as u64;
-            used = used.max(self.before + self.present + self.next);
-            self.advance(lookup);
+        while !self.ended(depth) {
+            self.expand_layer(depth)?;
+            expanded += self.sizes.present as u64;
+            used = used.max(self.count());
+            self.advance();
             depth += 1;
         }
-        Some(Ended {
+        Ok(Ended {
             depth,
             expanded,
             used,

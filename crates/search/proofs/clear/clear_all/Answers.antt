@@ -1,9 +1,10 @@
--- Behind all records there is none.
-use Rattle.std.proofs.Common.{◌++◌, length, replicate, ap, ◌∙◌, arith}
-use Rattle.std.proofs.lemmas.List.{append-nil, drop_all}
+-- Every record is what the closure gives.
+use Rattle.std.proofs.Common.{replicate, ap, ◌∙◌, rules}
+use Rattle.search.proofs.Blanks.{all_blank}
 use Rattle.search.proofs.clear.clear_all.Goals as goal
 
 pub returns : goal.returns
 returns g c =
-    let rs = c.args.records.now in
-    c.blank_front.ensures ∙ ap (λ xs. replicate (length rs) g.R.Record.blank ++ xs) (drop_all (length rs) rs (omega arith)) ∙ append-nil (replicate (length rs) g.R.Record.blank)
+    let ran = c.fill_with.ensures.ran in
+    all_blank _ _ g.R.Record.blank (λ x f' k. search rules) c.fill_with.new.self ran.0 ran.1
+    ∙ ap (λ n. replicate n g.R.Record.blank) c.fill_with.ensures.len

@@ -4,7 +4,7 @@ use Rattle.search.proofs.Chaining.{Left}
 use Rattle.search.proofs.chains.ChainsLookup.meets.Given as goal
 
 abbrev pub invariant-loop-place : goal.invariant-loop-place
-invariant-loop-place g l = (l.above ≤ length l.records) × Left l.self.memory.now l.self.heads (map g.R.Record.tells l.records) l.setting l.above l.place
+invariant-loop-place g l = (l.above ≤ length l.records) × ∥ Left l.self.memory.now l.self.heads (map g.R.Record.tells l.records) l.setting l.above l.place ∥₁
 
 abbrev pub decreases-loop-place : goal.decreases-loop-place
 decreases-loop-place g l = l.above

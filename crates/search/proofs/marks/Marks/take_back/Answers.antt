@@ -1,29 +1,28 @@
 -- One record a turn.
-use Rattle.std.proofs.Common.{◌≡◌, ◌+◌, ◌<◌, min, map, length, drop, sym, ◌∙◌, subst, arith}
+use Rattle.std.proofs.Common.{◌+◌, ◌++◌, map, drop, sym, ◌∙◌, subst, arith}
 use lib.ListN.{length-map}
+use Rattle.std.proofs.lemmas.List.{drop_all}
 use Rattle.search.specs.Marked.{Follows}
 use Rattle.search.proofs.Scanning.{told_here}
-use Rattle.search.proofs.Marking.{next_first, drop_most}
+use Rattle.search.proofs.Marking.{next_first}
 use Rattle.search.proofs.marks.Marks.take_back.Goals as goal
 
-pub loop-place-init : goal.loop-place-init
-loop-place-init g c = λ follows. follows
+pub loop-record-init : goal.loop-record-init
+loop-record-init g c = λ ss follows. follows
 
-pub loop-place-preserved : goal.loop-place-preserved
-loop-place-preserved g c =
-    λ follows.
+pub loop-record-preserved : goal.loop-record-preserved
+loop-record-preserved g c =
+    λ ss follows.
     let tells = g.R.Record.tells in
     let rs = c.args.records.now in
-    let i = c.loop-place.place in
-    let inside : i < length rs = omega (arith, c.loop-place-test.true, c.min-most.ensures) in
-    let told = told_here tells rs 0 i c.index-records-place.result inside c.index-records-place.is ∙ sym c.setting.ensures in
-    let first = next_first (map tells rs) i c.setting.result (omega (arith, inside, length-map rs tells)) told in
-    c.turn.ensures.unmarks (drop (i + 1) (map tells rs)) (subst (λ ss. Follows c.loop-place.self ss) first (c.loop-place.invariant follows))
+    let i = c.loop-record.record-index in
+    let told = told_here tells rs i c.record-item.result c.loop-record-test.true c.record-item.is ∙ sym c.setting.ensures in
+    let first = next_first (map tells rs) i c.setting.result (omega (arith, c.loop-record-test.true, length-map rs tells)) told in
+    c.turn.ensures.unmarks (drop (i + 1) (map tells rs) ++ ss) (subst (λ xs. Follows c.loop-record.self (xs ++ ss)) first (c.loop-record.invariant ss follows))
 
 pub returns : goal.returns
 returns g c =
-    λ follows.
-    let tells = g.R.Record.tells in
-    let rs = c.args.records.now in
-    let most : c.loop-place.place ≡ min c.args.count (length (map tells rs)) = omega (arith, c.loop-place-test.false, c.loop-place.auto.place-end, c.min-most.ensures, length-map rs tells) in
-    subst (λ ss. Follows c.loop-place.self ss) (drop_most (map tells rs) c.args.count c.loop-place.place most) (c.loop-place.invariant follows)
+    λ ss follows.
+    let ts = map g.R.Record.tells c.args.records.now in
+    let none = drop_all c.loop-record.record-index ts (omega (arith, c.loop-record-test.false, length-map c.args.records.now g.R.Record.tells)) in
+    subst (λ xs. Follows c.loop-record.self (xs ++ ss)) none (c.loop-record.invariant ss follows)

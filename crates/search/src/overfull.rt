@@ -1,0 +1,3 @@
+// There is no place for a record.
+#[derive(Clone, Copy)]
+pub(crate) struct Overfull;
