@@ -28,7 +28,7 @@ pub fn steps_fault(body: &[u8]) -> Option<StepsFault>
         return Some(StepsFault::Length);
     }
     let listed = *answer == 0;
-    if !listed && (*answer < 4 || *answer > 7) {
+    if !matches!(*answer, 0 | 4..=7) {
         return Some(StepsFault::Answer);
     }
     if !listed && bytes > 0 {

@@ -28,7 +28,7 @@ pub record AtMost {F : Type 0} (byte : F → ℕ) (m : ℕ) (o : Option F) : Typ
   pub holds : (f : F) → o ≡ Some f → byte f ≤ m
 
 pub at_none : {F : Type 0} (byte : F → ℕ) (m : ℕ) → AtMost byte m None
-at_none byte m = record { holds = λ f e. absurd (let z : ◌≡◌ {A = ℕ} 0 1 = cc in omega arith) }
+at_none byte m = record { holds = λ f e. cc }
 
 pub at_some : {F : Type 0} (byte : F → ℕ) (m : ℕ) (f : F) → byte f ≤ m → AtMost byte m (Some f)
 at_some byte m f p = record { holds = λ g e. let s : byte f ≡ byte g = cc in omega arith }

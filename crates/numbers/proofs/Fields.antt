@@ -13,24 +13,6 @@ value_at zero (b ∷ bs) k = refl
 value_at (suc n) [] k = omega (arith, value_take_nil k)
 value_at (suc n) (b ∷ bs) k = value_at n bs k
 
--- fields of two, four and eight bytes
+-- a field of two bytes
 pub field_2 : (n : ℕ) (bs : List ℕ) → value (take 2 (drop n bs)) ≡ get_or bs n 0 + 256 * get_or bs (suc n) 0
 field_2 n bs = omega (arith, value_at n bs 1, value_at (suc n) bs 0)
-
-pub field_4 : (n : ℕ) (bs : List ℕ) → value (take 4 (drop n bs)) ≡ value (take 2 (drop n bs)) + 65536 * value (take 2 (drop (suc (suc n)) bs))
-field_4 n bs =
-    omega (arith, value_at n bs 3, value_at (suc n) bs 2, value_at n bs 1, value_at (suc n) bs 0)
-
-pub field_8 : (n : ℕ) (bs : List ℕ) → value (take 8 (drop n bs)) ≡ value (take 4 (drop n bs)) + 4294967296 * value (take 4 (drop (suc (suc (suc (suc n)))) bs))
-field_8 n bs =
-    omega (
-      arith,
-      value_at n bs 7,
-      value_at (suc n) bs 6,
-      value_at (suc (suc n)) bs 5,
-      value_at (suc (suc (suc n))) bs 4,
-      value_at n bs 3,
-      value_at (suc n) bs 2,
-      value_at (suc (suc n)) bs 1,
-      value_at (suc (suc (suc n))) bs 0,
-    )

@@ -1,5 +1,5 @@
 -- Numbers written in bytes and read from them: the two ways, and lengths. Assumes nothing.
-use Rattle.std.proofs.Common.{◌≡◌, ℕ, zero, suc, ◌+◌, ◌-◌, ◌*◌, ◌/◌, ◌%◌, ◌<◌, ◌≤◌, List, [], ◌∷◌, ◌++◌, length, get_or, take, drop, set, sym, refl, ap, ◌∙◌, append_assoc, append-nil, arith, take_all}
+use Rattle.std.proofs.Common.{◌≡◌, ℕ, zero, suc, ◌+◌, ◌-◌, ◌*◌, ◌/◌, ◌%◌, ◌<◌, List, [], ◌∷◌, ◌++◌, length, get_or, take, drop, set, sym, refl, ap, ◌∙◌, append_assoc, arith}
 use Rattle.std.proofs.lemmas.List.{take_more_set}
 use Rattle.numbers.specs.Low.{low, value, reach, Bytes}
 
@@ -40,13 +40,6 @@ low_more xs i m left n h l e =
     let s : m - i ≡ suc (m - (i + 1)) = omega arith in
     let f : take i xs ++ low (suc (m - (i + 1))) left ≡ low m n = ap (λ k. take i xs ++ low k left) (sym s) ∙ e in
     rw (take_more_set xs i (left % 256) h, append_assoc) f
-
--- nothing is left to fill
-pub low_all : (xs : List ℕ) (i m left n : ℕ) → m ≤ i → length xs ≡ m → take i xs ++ low (m - i) left ≡ low m n → xs ≡ low m n
-low_all xs i m left n h l e =
-    let s : m - i ≡ 0 = omega arith in
-    let f : take i xs ++ low 0 left ≡ low m n = ap (λ k. take i xs ++ low k left) (sym s) ∙ e in
-    sym (take_all i xs (omega arith)) ∙ (sym (append-nil (take i xs)) ∙ f)
 
 -- what is a byte at each place is so throughout, and in every part
 pub bytes_from : (bs : List ℕ) → ((i : ℕ) → get_or bs i 0 < 256) → Bytes bs

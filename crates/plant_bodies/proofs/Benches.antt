@@ -1,14 +1,15 @@
 -- The checks of a bench's body, where one interlock more than a bench has is read at most. Assumes nothing.
-use Rattle.std.proofs.Common.{◌≡◌, ℕ, ◌+◌, ◌-◌, ◌*◌, ◌/◌, ◌<◌, ◌≤◌, cond, not, ◌||◌, ltb, List, length, take, drop, Some, sym, ap, ◌∙◌, inl, inr, arith, length-drop, take_all}
+use Rattle.std.proofs.Common.{◌≡◌, ℕ, ◌+◌, ◌-◌, ◌*◌, ◌/◌, ◌<◌, ◌≤◌, cond, not, ◌||◌, ltb, List, length, take, drop, Some, sym, ap, ◌∙◌, arith, length-drop}
 use Rattle.std.specs.Option.{option_map}
 use Rattle.std.proofs.lemmas.List.{length-take-le, take_rest, drop-drop}
-use Rattle.std.proofs.lemmas.Bool.{cases_lt, cond-true, lt-ltb, eqb-true, eq-eqb}
+use Rattle.std.proofs.lemmas.Bool.{cond-true, lt-ltb, eqb-true, eq-eqb}
 use Rattle.valves.specs.declared.interlock.Interlock.{Interlock}
 use Rattle.valves.specs.declared.fault.BenchFault.TheVariants as bench
 use Rattle.valves.specs.Faults.{bench_fault}
 use Rattle.plant_bodies.specs.declared.bench_body.ValvesFault.TheVariants.{Length, Bench}
 use Rattle.plant_bodies.specs.Rows.{rows_in, interlock}
 use Rattle.plant_bodies.specs.BenchRule.{valves_in, interlock_count, body_positions, body_interlocks, BenchSays, valves_fault}
+use Rattle.plant_bodies.proofs.Enough.{enough}
 
 -- too many interlocks are told by their number
 many : (ns : List ℕ) (ls : List Interlock) → 32 < length ls → bench_fault ns ls ≡ cond (ltb (length ns) 1 || ltb 12 (length ns)) (Some bench.Valves) (Some bench.Interlocks)
@@ -16,11 +17,7 @@ many ns ls h = ap (cond (ltb (length ns) 1 || ltb 12 (length ns)) (Some bench.Va
 
 -- so the first 33 have the fault of all
 pub first_enough : (ns : List ℕ) (ls : List Interlock) → bench_fault ns (take 33 ls) ≡ bench_fault ns ls
-first_enough ns ls =
-    elim (cases_lt 32 (length ls)) [
-      | inl more ↦ let long : 32 < length (take 33 ls) = omega (arith, length-take-le 33 ls (omega arith)) in many ns (take 33 ls) long ∙ sym (many ns ls more)
-      | inr few ↦ ap (bench_fault ns) (take_all 33 ls (omega arith))
-    ]
+first_enough ns ls = enough 32 _ (bench_fault ns) (many ns) ls
 
 -- the parts of a body
 pub parts_said : (bs positions rows : List ℕ) (ls : List Interlock) → 2 ≤ length bs →

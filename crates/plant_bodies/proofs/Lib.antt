@@ -1,3 +1,4 @@
 pub mod RowByRow
+pub mod Enough
 pub mod Benches
 pub mod Tracks

@@ -1,13 +1,13 @@
 -- The checks of a track's body, where one link more than a track has is read at most. Assumes nothing.
-use Rattle.std.proofs.Common.{◌≡◌, ℕ, ◌<◌, cond, not, ◌||◌, eqb, ltb, List, length, take, Some, sym, ap, ◌∙◌, inl, inr, arith, take_all}
+use Rattle.std.proofs.Common.{◌≡◌, ℕ, ◌<◌, cond, not, ◌||◌, eqb, ltb, List, length, take, Some, sym, ap, ◌∙◌}
 use Rattle.std.specs.Option.{option_map}
-use Rattle.std.proofs.lemmas.List.{length-take-le}
-use Rattle.std.proofs.lemmas.Bool.{cases_lt, cond-true, lt-ltb}
+use Rattle.std.proofs.lemmas.Bool.{cond-true, lt-ltb}
 use Rattle.track.specs.declared.link.Link.{Link}
 use Rattle.track.specs.declared.link.TrackFault.TheVariants as track
 use Rattle.track.specs.Fault.{fault}
 use Rattle.plant_bodies.specs.declared.track_body.TrackBodyFault.TheVariants.{Length, Track}
 use Rattle.plant_bodies.specs.TrackRule.{stations_in, body_links, TrackSays, track_fault}
+use Rattle.plant_bodies.proofs.Enough.{enough}
 
 -- too many links are told by their number
 many : (n : ℕ) (ls : List Link) → 1024 < length ls → fault n ls ≡ cond (eqb n 0 || ltb 512 n) (Some track.Stations) (Some track.Links)
@@ -15,11 +15,7 @@ many n ls h = ap (cond (eqb n 0 || ltb 512 n) (Some track.Stations)) (cond-true 
 
 -- so the first 1,025 have the fault of all
 pub first_enough : (n : ℕ) (ls : List Link) → fault n (take 1025 ls) ≡ fault n ls
-first_enough n ls =
-    elim (cases_lt 1024 (length ls)) [
-      | inl more ↦ let long : 1024 < length (take 1025 ls) = omega (arith, length-take-le 1025 ls (omega arith)) in many n (take 1025 ls) long ∙ sym (many n ls more)
-      | inr few ↦ ap (fault n) (take_all 1025 ls (omega arith))
-    ]
+first_enough n ls = enough 1024 _ (fault n) (many n) ls
 
 -- the fault of the parts is that of the body
 pub said_fault : (bs : List ℕ) (n : ℕ) (ls : List Link) → TrackSays bs n ls → option_map Track (fault n ls) ≡ track_fault bs

@@ -1,5 +1,5 @@
 -- What no fault of a body says of the bench that it describes. Assumes nothing.
-use Rattle.std.proofs.Common.{◌≡◌, ℕ, ◌≤◌, Bool, true, false, cond, not, List, length, is_some, Some, None, Ok, Err, Option, Result, sym, refl, ap, ◌∙◌, take_all, arith}
+use Rattle.std.proofs.Common.{◌≡◌, ℕ, ◌≤◌, List, length, is_some, None, Ok, Err, Result, sym, ap, ◌∙◌, take_all, arith}
 use Rattle.std.specs.Option.{option_map}
 use Rattle.std.specs.Result.{result_ok}
 use Rattle.valves.specs.declared.fault.BenchFault.{BenchFault}
@@ -9,18 +9,13 @@ use Rattle.valves.specs.Bench.{bench}
 use Rattle.valves.specs.Faults.{bench_fault}
 use Rattle.valves.specs.Of.{counts_of, interlocks_of, Makes}
 use Rattle.valves.specs.Faultless.{data_from_none}
-use Rattle.plant_bodies.specs.declared.bench_body.ValvesFault.{ValvesFault}
 use Rattle.plant_bodies.specs.declared.bench_body.ValvesFault.TheVariants.{Length, Bench as Wrong}
 use Rattle.plant_bodies.specs.BenchRule.{valves_in, body_positions, body_interlocks, bench_long, BenchSays, valves_fault}
 use Rattle.plant_bodies.proofs.Benches.{said_fault}
+use Rattle.plants_read.proofs.Passed.{passed}
 use Rattle.plants_read.specs.Benches.{BenchMade, ReadsBench}
 
--- the length is right, and the bench has no fault
-passed : (b : Bool) (f : ValvesFault) (g : BenchFault → ValvesFault) (o : Option BenchFault) → None ≡ cond (not b) (Some f) (option_map g o) → o ≡ None
-passed false f g o e = let z : ◌≡◌ {A = ℕ} 0 1 = cc in absurd (omega arith)
-passed true f g None e = refl
-passed true f g (Some x) e = let z : ◌≡◌ {A = ℕ} 0 1 = cc in absurd (omega arith)
-
+-- no fault of the body is none of the plant
 pub body_faultless : (bs : List ℕ) → None ≡ valves_fault bs → bench_fault (body_positions bs) (body_interlocks bs) ≡ None
 body_faultless bs e = passed (bench_long bs) Length (Wrong (valves_in bs)) (bench_fault (body_positions bs) (body_interlocks bs)) e
 

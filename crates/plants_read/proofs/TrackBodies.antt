@@ -1,5 +1,5 @@
 -- What no fault of a body says of the track that it describes. Assumes nothing.
-use Rattle.std.proofs.Common.{◌≡◌, ℕ, ◌≤◌, Bool, true, false, cond, not, List, length, is_some, Some, None, Ok, Err, Option, Result, sym, refl, ap, ◌∙◌, take_all, arith}
+use Rattle.std.proofs.Common.{◌≡◌, ℕ, ◌≤◌, Bool, true, false, cond, List, length, is_some, Some, None, Ok, Err, Option, Result, sym, refl, ap, ◌∙◌, take_all, arith}
 use Rattle.std.specs.Option.{option_map}
 use Rattle.std.specs.Result.{result_ok}
 use Rattle.std.proofs.lemmas.Bool.{ltb-false}
@@ -11,20 +11,16 @@ use Rattle.track.specs.Fault.{fault}
 use Rattle.plant_bodies.specs.declared.track_body.TrackBodyFault.TheVariants.{Length, Track as Wrong}
 use Rattle.plant_bodies.specs.TrackRule.{stations_in, body_links, track_long, TrackSays, track_fault}
 use Rattle.plant_bodies.proofs.Tracks.{said_fault}
+use Rattle.plants_read.proofs.Passed.{passed}
 use Rattle.plants_read.specs.Tracks.{track_links, TrackMade, ReadsTrack}
 
--- the length is right, and the track has no fault
-passed : (b : Bool) (o : Option TrackFault) → None ≡ cond (not b) (Some Length) (option_map Wrong o) → o ≡ None
-passed false o e = let z : ◌≡◌ {A = ℕ} 0 1 = cc in absurd (omega arith)
-passed true None e = refl
-passed true (Some x) e = let z : ◌≡◌ {A = ℕ} 0 1 = cc in absurd (omega arith)
-
+-- no fault of the body is none of the plant
 pub track_faultless : (bs : List ℕ) → None ≡ track_fault bs → fault (stations_in bs) (track_links bs) ≡ None
-track_faultless bs e = passed (track_long bs) (fault (stations_in bs) (body_links bs)) e
+track_faultless bs e = passed (track_long bs) Length Wrong (fault (stations_in bs) (body_links bs)) e
 
 -- at most 1,024 links
 test_passed : (b : Bool) (f : TrackFault) (o : Option TrackFault) → cond b (Some f) o ≡ None → (b ≡ false) × (o ≡ None)
-test_passed true f o e = let z : ◌≡◌ {A = ℕ} 0 1 = cc in absurd (omega arith)
+test_passed true f o e = cc
 test_passed false f o e = (refl, e)
 
 links_most : (n : ℕ) (ls : List Link) → fault n ls ≡ None → length ls ≤ 1024

@@ -2,5 +2,4 @@ pub mod Words
 pub mod Places
 pub mod Lengths
 pub mod Growth
-pub mod Completion
 pub mod Acceptance

@@ -1,5 +1,5 @@
--- What writes into the parts of a body, a row and a head leave. Assumes nothing.
-use Rattle.std.proofs.Common.{◌≡◌, ℕ, zero, suc, ◌+◌, ◌-◌, ◌*◌, ◌≤◌, List, [], ◌∷◌, ◌++◌, length, take, drop, set, replicate, sym, refl, ap, ◌∙◌, append-nil, arith, length-drop, length-take}
+-- What writes into the parts of a body and of a row leave. Assumes nothing.
+use Rattle.std.proofs.Common.{◌≡◌, ℕ, ◌+◌, ◌-◌, ◌*◌, ◌≤◌, List, [], ◌∷◌, ◌++◌, length, take, drop, set, refl, ap, ◌∙◌, append-nil, arith, length-drop, length-take}
 use borrow.Rule.Slice.PartMut.{put_mid}
 use Rattle.std.proofs.lemmas.List.{take_at, drop_at, drop_all, length-set}
 use Rattle.numbers.specs.Low.{low}
@@ -53,9 +53,3 @@ row_written part ys a n l f =
     let m : length (set (set part 0 a) 1 0) ≡ length part = simp length-set in
     let two : length (take 2 (drop 2 (set (set part 0 a) 1 0))) ≡ 2 = length_part (set (set part 0 a) 1 0) 2 2 (omega arith) in
     row_part part ys a l ∙ ap (λ t. a ∷ (0 ∷ t)) (f ∙ ap (λ i. low i n) two)
-
--- a head with rows that are zero
-pub head_part : (n b : ℕ) → 2 ≤ n → set (replicate n 0) 0 b ≡ b ∷ (0 ∷ replicate (n - 2) 0)
-head_part zero b h = absurd (omega arith)
-head_part (suc zero) b h = absurd (omega arith)
-head_part (suc (suc n)) b h = let e : suc (suc n) - 2 ≡ n = omega arith in ap (λ m. b ∷ (0 ∷ replicate m 0)) (sym e)

@@ -1,5 +1,5 @@
 -- A turn reads one row more, until none is left or there is no more room.
-use Rattle.std.proofs.Common.{◌≡◌, ◌/◌, length, ap, ◌∙◌, arith, rules}
+use Rattle.std.proofs.Common.{◌≡◌, ◌/◌, length, ap, ◌∙◌, arith}
 use Rattle.std.specs.Simd.{first_chunks}
 use Rattle.plant_bodies.proofs.RowByRow.{rows_begun, row_read, rows_read}
 use Rattle.plant_bodies.proofs.rows.read_rows.Goals as goal
@@ -12,9 +12,6 @@ loop-four-init g c =
     let all : c.iter.result.rest.now ≡ first_chunks 4 (length c.args.bytes.now / 4) c.args.bytes.now = c.iter.ensures.rest ∙ c.as_chunks.ensures.front in
     let fours : c.into_iter-four-iterator.result.iter.rest.now ≡ first_chunks 4 (length c.args.bytes.now / 4) c.args.bytes.now = ap (λ i. i.rest.now) source ∙ all in
     (rows_begun g.R.Row.said g.met.R.Row.alone g.row.MOST _ _ _ c.args.bytes.now _ fours count c.clear.ensures, omega (arith, ap length c.clear.ensures, count))
-
-pub push-requires : goal.push-requires
-push-requires g c = (search rules, omega (arith, c.loop-four.invariant.1, c.in-Some.ensures.steps.1))
 
 pub loop-four-preserved : goal.loop-four-preserved
 loop-four-preserved g c = (
