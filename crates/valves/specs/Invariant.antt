@@ -1,6 +1,6 @@
 -- What every bench that there is keeps: its data are good, and its places hold them. Assumes nothing.
-use Rattle.std.specs.Prelude.{◌≡◌, ℕ, suc, ◌+◌, ◌*◌, ◌/◌, ◌%◌, ◌<◌, length, slice_index, slice_index_or, refl}
-use Rattle.std.proofs.Common.{sym, ap, ◌∙◌, arith}
+use Rattle.std.specs.Prelude.{◌≡◌, ℕ, suc, ◌+◌, ◌*◌, ◌/◌, ◌%◌, ◌<◌, ◌≤◌, length, slice_index, slice_index_or, refl}
+use Rattle.std.proofs.Common.{sym, ap, ◌∙◌, arith, mul-le-mul}
 use Rattle.std.proofs.lemmas.List.{length-map, get_or-map}
 use Rattle.plant.specs.Laws.{Lawful}
 use Rattle.plant.specs.Options.{none_from_test}
@@ -15,7 +15,8 @@ use Rattle.valves.specs.declared.bench.valve.Valve.{Valve}
 use Rattle.valves.specs.declared.bench.row.Row.{Row}
 use Rattle.valves.specs.Faultless.{data_from_none}
 use Rattle.valves.specs.Numbering.{position_digit, weight_more}
-use Rattle.valves.specs.BenchLawful.{bench_lawful}
+use Rattle.valves.specs.BenchLawful.{bench_lawful, settings_few}
+use Rattle.valves.specs.Shares.{share_digit}
 
 pub data_of : (b : Bench) → BenchData (counts_of b) (interlocks_of b)
 data_of b = data_from_none (counts_of b) (interlocks_of b) (none_from_test _ b.faultless)
@@ -46,6 +47,28 @@ pub digit_at : (b : Bench) (s v : ℕ) (d : Valve) → v < length b.valves.items
 digit_at b s v d h =
     ap (λ x. s / x % (slice_index_or b.valves.items v d).positions) (weight_at b v d h)
     ∙ (ap (λ x. s / weight (counts_of b) v % x) (sym (count_at b v d h)) ∙ sym (position_digit (counts_of b) s v (valve_in b v h)))
+
+pub count_two : (b : Bench) (v : ℕ) (d : Valve) → v < length b.valves.items → 2 ≤ (slice_index_or b.valves.items v d).positions
+count_two b v d h = (slice_index_or b.valves.items v d).two
+
+pub count_four : (b : Bench) (v : ℕ) (d : Valve) → v < length b.valves.items → (slice_index_or b.valves.items v d).positions ≤ 4
+count_four b v d h = (slice_index_or b.valves.items v d).four
+
+pub weight_some : (b : Bench) (v : ℕ) (d : Valve) → v < length b.valves.items → 0 < (slice_index_or b.valves.items v d).weight
+weight_some b v d h = let some = (slice_index_or b.valves.items v d).some in omega arith
+
+-- the same position by the valve's share
+pub share_digit_at :
+    (b : Bench) (s v : ℕ) (d : Valve) → v < length b.valves.items → s < b.settings
+    → s * (slice_index_or b.valves.items v d).share % 18446744073709551616 % whole * (slice_index_or b.valves.items v d).positions / whole ≡ slice_index (positions (counts_of b) s) v
+share_digit_at b s v d h inside =
+    let x = slice_index_or b.valves.items v d in
+    let k = data_of b in
+    let few = settings_few (counts_of b) k.valves_most k.four in
+    let low : s ≤ 16777216 = omega (arith, b.counts) in
+    let wrapped : s * x.share % 18446744073709551616 % whole ≡ s * x.share % whole = omega arith in
+    ap (λ y. y * x.positions / whole) (wrapped ∙ ap (λ y. s * y % whole) x.shared)
+    ∙ (share_digit whole s x.weight x.positions (omega arith) x.some (omega (arith, x.two)) (omega (arith, mul-le-mul low x.few)) ∙ digit_at b s v d h)
 
 -- a valve, for lemmas that ask for one
 pub smallest : Valve
