@@ -21,16 +21,15 @@ PATTERNS = [
     (1, "flag beside the value", r"\bheld: bool,"),
     (1, "own shape of a result", r"\bpub\(crate\) answer: u8,|\bpub\(crate\) fault: Option<"),
     (1, "check that answers its fault as an option", r"(?m)^ *(?:pub\(crate\) )?fn \w*(?:fault|refusal)\w*(?:<[^(]*>)?\((?:(?!\bfn\b)[^{])*?-> Option<\w*(?:Fault|Refusal)>"),
-    (1, "number for a kind, a way or a refusal", r"\b(?:kind|byte|way): u8\b|Result<[^;{}=]*, u8>"),
+    (1, "number for a kind, a way or a refusal", r"(?<!fn try_from\()\b(?:kind|byte|way): u8\b|Result<[^;{}=]*, u8>"),
     (3, "while or loop", r"(?m)^ *(?:while|loop)\b"),
     (3, "loop that a library method does", r"for (\w+) in [^{\n]*\{\s*(?:if [^{]*\{\s*return (?:true|false);\s*\}|\*\1 = 0;|self\.push\(\*\1\);)\s*\}"),
     (3, "rows taken off what is left, or counted beside the loop", r"let mut rest = \w+;|\b(?:count|row) [+-]= 1;"),
-    (4, "number of an enum by a match", r"fn (?:code|kind_of)\b"),
+    (4, "number of an enum by a match", r"fn (?:code|kind_of)\([^{]*\{[^{}]*\}\s*\{\s*match"),
     (4, "text of an enum or of an answer by a function", r"fn (?:text|tell|tell_count|refuse|layer_word)\b"),
-    (4, "decimal by hand", r"fn push_decimal\b"),
+    (4, "decimal by hand", r"\b48 \+ "),
     (4, "zero by hand", r"Relayed \{\s*setting: 0,\s*relay: 0,?\s*\}|Interlock \{\s*valve: 0,\s*position: 0,\s*other: 0,\s*stands: 0,?\s*\}|Link \{ one: 0, other: 0 \}|Question \{\s*start: 0,"),
     (4, "text made to be appended", r"format!\(in [^)]*\(\); [^)]*\)\?\.as_str\(\)|format!\(in heap; [^)]*\)\?;\s*text\.push_str"),
-    (6, "array with a count beside it, or parallel arrays", r"(?m)^ +(?:pub(?:\(crate\))? )?\w+: \[\w+; \w+\],"),
     (6, "index beside a slice", r"\b(?:begins|ends|links|heads|before|present|next|end): (?:u16|u32|usize),"),
     (7, "switch on a number that says which way", r"match way\b"),
 ]
@@ -49,10 +48,10 @@ TWINS = {
     "interlock's fault": r"fn (?:row_fault|interlock_fault)\b",
     "rows' fault": r"fn (?:interlocks_fault|links_fault)\b",
     "link's fault": r"fn (?:link_fault|fault_in)\b",
-    "looking through records": r"fn (?:stands|first_place|first_record|find|record_of)\b",
+    "looking through records": r"fn (?:first_place|first_record|find|record_of)\b",
     "first fault": r"fn made_fault\b|fn data_fault\b",
     "bench A": r"fn bench_a\b",
-    "ring": r"fn ring\b",
+    "ring with a spur": r"one: 2, other: 4 \}|link\(3, 0\), link\(2, 4\)\]",
     "tell": r"fn (?:tell|refuse)\b",
     "calls for C of a kind of plant": r"fn jidorafu_measure_",
 }
@@ -67,6 +66,16 @@ def bare(text):
 def functions(text):
     for m in re.finditer(r"\bfn (\w+)[^({]*\(((?:[^()]|\([^()]*\))*)\)((?:(?!\bfn\b)[^;])*?)\n? *\{", text):
         yield m
+
+
+def arrays(text):
+    """Array fields of structs that have two of them, or a count beside one."""
+    for m in re.finditer(r"\bstruct \w+[^{};]*\{", text):
+        body = block(text, m.end() - 1)
+        found = [m.end() - 1 + a.start() for a in re.finditer(r"\w+: \[\w+; \w+\],", body)]
+        counts = re.search(r"\b(?:valves|rows|count|length|begins|end): (?:u8|u16|usize),", body)
+        if counts or len(found) > 1:
+            yield from found
 
 
 def block(text, at):
@@ -144,6 +153,7 @@ def main():
     for point, name, pattern in PATTERNS:
         if point > 5:
             told(point, name, [place(f, m.start()) for f in files for m in re.finditer(pattern, texts[f])])
+    told(6, "array with a count beside it, or parallel arrays", [place(f, at) for f in files for at in arrays(texts[f])])
     lines = sum(len(p.read_text().splitlines()) for p in top.glob("crates/*/proofs/**/*.antt"))
     answers = sum(len(re.findall(r"(?m)^pub [\w-]+ : goal\.", p.read_text())) for p in top.glob("crates/*/proofs/**/Answers.antt"))
     print(f"8  {answers:3}  answers to goals, in {lines} lines of proofs")

@@ -2,6 +2,7 @@
 ghost use Rattle.std.specs.Prelude.{◌≤◌};
 
 // The list stands at the front of its place.
+// Stays: a place with the length beside it, since a plan writes into a place of 255 and there is no heap.
 #[derive(Clone, Copy)]
 pub(crate) struct List {
     pub(crate) count: u64,

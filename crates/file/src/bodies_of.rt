@@ -40,6 +40,7 @@ impl<'a> Bodies<'a> {
         ensures { BodyIs (slice_get (parts_left self.entry) number) result }
     {
         let mut rest = self;
+        // Stays: rows are taken one after another, as in `check_bodies`.
         for _before in 0..number {
             let (_, after) = rest.split_first()?;
             rest = after;
@@ -60,6 +61,7 @@ fn plant_before(rows: Rows, number: u8, named: u8) -> bool
 }
 
 // What is wrong first with the body of one entry, if anything.
+// Stays: an option, which the checks of the bodies answer and which is handed on.
 fn body_fault(rows: Rows, body: Body) -> Option<BodyFault>
     ensures { result ≡ kind_fault rows.entry.bytes.now body.entry.number body.entry.kind body.entry.place body.entry.bytes.now }
 {
@@ -82,6 +84,7 @@ pub(crate) fn check_bodies(bodies: Bodies) -> Result<(), BodyFault>
     ensures { result_err result ≡ parts_fault bodies.entry.rows.bytes.now bodies.entry.rows.number (parts_left bodies.entry) }
 {
     let mut rest = bodies;
+    // Stays: rows are taken one after another, each by a slice pattern with the rest; a rule of the project.
     while let Some((body, after)) = rest.split_first() {
         if let Some(fault) = body_fault(bodies.rows, body) {
             return Err(fault);

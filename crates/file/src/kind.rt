@@ -32,6 +32,7 @@ impl TryFrom<u8> for Kind {
 }
 
 // The kind with this number, if there is one.
+// Stays: a byte, here and in `takes`, since a narrower type would ask more of callers.
 pub fn kind_of(byte: u8) -> Option<Kind>
     ensures { result ≡ kind_of byte }
 {

@@ -34,6 +34,7 @@ fn fault_of(rt: &HostRuntime, line: &str) -> anyhow::Result<Option<FileFault>> {
     }
 }
 
+// Stays: the bytes of `Line` and no `Display`, since they are what is tried here.
 fn tell(rt: &HostRuntime, name: &str, fault: Option<FileFault>) -> anyhow::Result<()> {
     match fault {
         Some(fault) => {

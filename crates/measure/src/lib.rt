@@ -24,6 +24,7 @@ pub struct Measured {
 // setting, the bound is above 255, the leg needs more records than there are, or it has no length. After a search, refused
 // or not, every record is zero; else they are as they were. The index is memory for looking settings up, of any length,
 // none among them: it decides how long the search takes, and nothing else.
+// Stays: records and index as two slices, since a struct of two `&mut` is told in contracts by ghost names.
 pub fn measure<P: Plant>(
     plant: &P,
     leg: Leg,

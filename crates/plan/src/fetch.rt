@@ -11,6 +11,7 @@ use search::leg_search::search_leg;
 
 // Fills the list, which is as long as the least length, with the earliest operations from start to target; answers the
 // settings expanded, or none where a leg needs more records than there are.
+// Stays: an option, since a leg of a fetch is refused for want of records alone; and two slices, as in `plan`.
 pub(crate) fn fetch<P: Plant>(
     plant: &P,
     start: u32,

@@ -27,6 +27,7 @@ pub struct Planned {
 // are, or no list within the bound leads there; the place then stays as it was. After a search, refused or not, every
 // record is zero; else they are as they were. The index is memory for looking settings up, of any length, none among them:
 // it decides how long the searches take, and nothing else.
+// Stays: records and index as two slices, since a struct of two `&mut` is told in contracts by ghost names.
 pub fn plan<P: Plant>(
     plant: &P,
     leg: Leg,

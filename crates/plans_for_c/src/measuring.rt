@@ -17,6 +17,7 @@ use plants_read::track_read::track_of;
 // What is answered where a body has a fault.
 const NO_PLANT: u64 = 65536;
 
+// Stays: records and index as two slices, since a struct of two `&mut` is told in contracts by ghost names.
 fn measure_on<P: Plant>(
     plant: &P,
     leg: Leg,
@@ -37,6 +38,7 @@ fn measure_on<P: Plant>(
     }
 }
 
+// Stays: a call for each kind of plant, with plain numbers and slices, since C makes them by name.
 // Measures on the bench that the body describes.
 #[unsafe(no_mangle)]
 pub extern "C" fn jidorafu_measure_bench(

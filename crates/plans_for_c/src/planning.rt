@@ -17,6 +17,7 @@ use plants_read::bench_read::bench_of;
 // What is answered where there is no bench, or no place for a list.
 const NO_PLAN: u64 = 65536;
 
+// Stays: records and index as two slices, since a struct of two `&mut` is told in contracts by ghost names.
 fn plan_on<P: Plant>(
     plant: &P,
     leg: Leg,
@@ -42,6 +43,7 @@ fn plan_on<P: Plant>(
     }
 }
 
+// Stays: plain numbers and slices, since C makes the call.
 // Plans on the bench that the body describes, and writes the list, with zero behind it.
 #[unsafe(no_mangle)]
 pub extern "C" fn jidorafu_plan_bench(

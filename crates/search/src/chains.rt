@@ -8,6 +8,7 @@ use crate::lookup::{Lookup, stands};
 use crate::record::Record;
 
 // A link for each place stands in front, and behind them a head for each bucket; no heads where the chains are given up.
+// Stays: numbers beside the memory, since it is the caller's.
 #[derive(Drop)]
 pub(crate) struct Chains<'a> {
     pub(crate) memory: &'a mut [u32],
@@ -92,6 +93,7 @@ impl<'a, R: Record> Lookup<R> for Chains<'a> {
         let head = self.links as usize + here as usize;
         let mut above = records.len();
         let mut place = self.memory[head] as usize;
+        // Stays: places are linked by their numbers, since the memory is the caller's.
         while place < above {
             let record = records[place];
             let told = record.setting();

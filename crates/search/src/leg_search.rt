@@ -35,6 +35,7 @@ pub struct Reached<R> {
 // the others as they were; for the first two refusals all of them. The index is memory for looking settings up, of any
 // length, none among them: it decides how long the search takes, and nothing else. What it holds before does not matter,
 // and what it holds after is open.
+// Stays: records and index as two slices, since a struct of two `&mut` is told in contracts by ghost names.
 pub fn search_leg<P: Plant, R: Record>(
     plant: &P,
     leg: Leg,

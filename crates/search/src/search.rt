@@ -20,6 +20,7 @@ pub(crate) struct Search<'p, 'a, P: Plant, R: Record, L: Lookup<R>> {
     ghost followed: { ∥ L.follows lookup (map R.tells (take (sizes.before + sizes.present + sizes.next) room.now)) ∥₁ },
 }
 
+// Stays: each method says that the task and the lender of the records are as they were; no field can say so of a call.
 impl<'p, 'a, P: Plant, R: Record, L: Lookup<R>> Search<'p, 'a, P, R, L> {
     ghost use Rattle.std.specs.Result.{is_ok};
     ghost use Rattle.legs.specs.Layers.{has, fits};

@@ -63,6 +63,7 @@ impl<'p, 'a, P: Plant, R: Record, L: Lookup<R>> Search<'p, 'a, P, R, L> {
         let mut depth = 0u16;
         let mut expanded = 0u64;
         let mut used = 1usize;
+        // Stays: nothing is indexed; the layers say where the leg ends.
         while !self.ended(depth) {
             self.expand_layer(depth)?;
             expanded += self.sizes.present as u64;

@@ -10,6 +10,7 @@ use std::test::Fail;
 use track::link::Link;
 use track::track::Track;
 
+// Stays: numbers for refusals, as in `asks`.
 // A ring of eight among five hundred stations, of which the others have no link: 16 numbers have a bit for each.
 fn ring() -> Result<Track, Fail> {
     let links = [

@@ -10,6 +10,7 @@ pub(crate) fn hold(records: &[Relayed], one: Relayed) -> bool {
     records.iter().all(|record| *record == one)
 }
 
+// Stays: written out, since a constant cannot call `default`.
 pub(crate) const ZERO: Relayed = Relayed {
     setting: 0,
     relay: 0,

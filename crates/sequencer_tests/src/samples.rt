@@ -35,6 +35,7 @@ pub(crate) fn row_of_stations(rt: &HostRuntime) -> Result<Track, Fail> {
 pub const RECORDS: usize = 12;
 
 // A record of zeros.
+// Stays: written out, since a constant cannot call `default`.
 pub const BLANK: Relayed = Relayed {
     setting: 0,
     relay: 0,
@@ -122,6 +123,7 @@ pub(crate) fn check_told<P: Plant>(rt: &impl Abort, sequencer: &Sequencer<P>, to
     assert_eq!(rt; sequencer.setting(), told.setting);
     assert_eq!(rt; sequencer.target(), told.target);
     assert_eq!(rt; sequencer.length(), told.length);
+    // Stays: a sequencer is asked by number, also past the end of what is told.
     for number in 0..LOOKED {
         assert_eq!(rt;
             sequencer.is_tagged(number),

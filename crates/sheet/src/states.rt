@@ -6,6 +6,7 @@ ghost use Rattle.std.specs.Prelude.{◌+◌, ◌*◌, ◌≤◌};
 pub struct EmptySheet {}
 
 // A sheet whose head stands and that takes bodies.
+// Stays: plain numbers, since the buffer is the caller's and is passed at each call.
 #[derive(Drop)]
 pub struct OpenSheet {
     // how many bodies it is to have, and how many it has

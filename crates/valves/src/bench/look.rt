@@ -6,6 +6,7 @@ ghost use Rattle.valves.specs.Of.{counts_of, position_of};
 use crate::bench::Bench;
 use crate::bench::at::ValveAt;
 
+// Stays: a setting and a valve as numbers, which callers have; `valve_at` makes one struct of them.
 impl Bench {
     // The position of the valve at the setting; none where there is no such setting or no such valve.
     pub fn position(&self, setting: u32, valve: u8) -> Option<u8>

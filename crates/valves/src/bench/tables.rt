@@ -29,6 +29,7 @@ pub(crate) fn valves_of(positions: &[u8], interlocks: &[Interlock]) -> (ArrayVec
     (valves, weight)
 }
 
+// Stays: how many interlocks there are at most is asked by each of these, which see a part of what was checked.
 // The interlocks, each with the next row of its valve.
 pub(crate) fn rows_of(interlocks: &[Interlock]) -> ArrayVec<Row, 32>
     requires { length interlocks.now ≤ 32 }
