@@ -28,7 +28,7 @@ impl ValveAt<'_> {
     pub(crate) fn up(self) -> Option<u32>
         ensures { result ≡ gone_up (counts_of self.entry.bench.now) (interlocks_of self.entry.bench.now) (placed self.entry.bench.now self.entry.setting) self.entry.valve }
     {
-        let valve = self.bench.valves[self.valve];
+        let valve = &self.bench.valves[self.valve];
         let from = valve.stands(self.setting);
         let to = from + 1;
         if to >= valve.positions || self.barred(from, to) {
@@ -41,7 +41,7 @@ impl ValveAt<'_> {
     pub(crate) fn down(self) -> Option<u32>
         ensures { result ≡ gone_down (counts_of self.entry.bench.now) (interlocks_of self.entry.bench.now) (placed self.entry.bench.now self.entry.setting) self.entry.valve }
     {
-        let valve = self.bench.valves[self.valve];
+        let valve = &self.bench.valves[self.valve];
         let from = valve.stands(self.setting);
         let to = from.checked_sub(1)?;
         if self.barred(from, to) {

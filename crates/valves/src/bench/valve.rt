@@ -7,12 +7,12 @@ const WHOLE: u64 = 4611686018427387904;
 
 #[derive(Clone, Copy)]
 pub(crate) struct Valve {
-    pub(crate) positions: u8,
-    // what one position adds to the setting
-    pub(crate) weight: u32,
     // what part of a whole one setting of the valves up to this one takes up, rounded up: a product by it stands for
     // two divisions
     share: u64,
+    // what one position adds to the setting
+    pub(crate) weight: u32,
+    pub(crate) positions: u8,
     // the row of the first interlock of the valve; the number of interlocks where there is none
     pub(crate) first: u8,
     ghost two: { 2 ≤ positions },
