@@ -5,6 +5,7 @@ ghost use Rattle.valves.specs.Tables.{whole};
 // What a share is a part of. Four wholes fit 64 bits.
 const WHOLE: u64 = 4611686018427387904;
 
+// The fields lie in this order so that a valve takes 16 bytes.
 #[derive(Clone, Copy)]
 pub(crate) struct Valve {
     // what part of a whole one setting of the valves up to this one takes up, rounded up: a product by it stands for
