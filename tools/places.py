@@ -41,7 +41,7 @@ TWINS = {
     "plan": r"^pub fn plan(?:_with_index)?\b",
     "Sequencer::plan": r"^ +pub fn plan(?:_with_index)?\b",
     "held": r"fn held_(?:positions|interlocks|links)\b",
-    "word, double, quad": r"pub fn (?:word|double|quad)\b",
+    "word, double, quad": r"pub fn (?:word|double|quad)\((?!self)",
     "track fault": r"pub enum TrackFault\b",
     "two stations": r"pub struct (?:Ends|Link) ",
     "positions' fault": r"fn (?:first_)?positions_fault\b",
