@@ -1,14 +1,10 @@
 -- One record a turn.
 use Rattle.std.proofs.Common.{◌+◌, ◌++◌, map, drop, sym, ◌∙◌, subst, arith}
 use lib.ListN.{length-map}
-use Rattle.std.proofs.lemmas.List.{drop_all}
 use Rattle.search.specs.Marked.{Follows}
 use Rattle.search.proofs.Scanning.{told_here}
 use Rattle.search.proofs.Marking.{next_first}
 use Rattle.search.proofs.marks.Marks.take_back.Goals as goal
-
-pub loop-record-init : goal.loop-record-init
-loop-record-init g c = λ ss follows. follows
 
 pub loop-record-preserved : goal.loop-record-preserved
 loop-record-preserved g c =
@@ -19,10 +15,3 @@ loop-record-preserved g c =
     let told = told_here tells rs i c.record-item.result c.loop-record-test.true c.record-item.is ∙ sym c.setting.ensures in
     let first = next_first (map tells rs) i c.setting.result (omega (arith, c.loop-record-test.true, length-map rs tells)) told in
     c.turn.ensures.unmarks (drop (i + 1) (map tells rs) ++ ss) (subst (λ xs. Follows c.loop-record.self (xs ++ ss)) first (c.loop-record.invariant ss follows))
-
-pub returns : goal.returns
-returns g c =
-    λ ss follows.
-    let ts = map g.R.Record.tells c.args.records.now in
-    let none = drop_all c.loop-record.record-index ts (omega (arith, c.loop-record-test.false, length-map c.args.records.now g.R.Record.tells)) in
-    subst (λ xs. Follows c.loop-record.self (xs ++ ss)) none (c.loop-record.invariant ss follows)
