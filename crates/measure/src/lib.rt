@@ -41,7 +41,7 @@ pub fn measure<P: Plant>(
             Reached {
                 length,
                 expanded,
-                record: _,
+                ..
             },
         ) => {
             clear_all(records);

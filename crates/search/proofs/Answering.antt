@@ -19,27 +19,6 @@ pub length_hit : {R : Type 0} (m : Meaning) (k : Kind R) (t : Tells k) (g : Leg)
 length_hit m k t g r h =
     cond-true (has (settings m g (end m g)) g.target) (Some (end m g)) None (subst (λ u. has (settings m g (end m g)) u ≡ true) h.1 (in_layer m k t g (end m g) r h.0))
 
-pub length_missed : {R : Type 0} (m : Meaning) (k : Kind R) (g : Leg) → AtEnd m k g None → leg_length m g ≡ None
-length_missed m k g h = cond-false (has (settings m g (end m g)) g.target) (Some (end m g)) None h
-
--- zero in the first n records, where there are as many
-pub zeroed_front : {R : Type 0} (blank : R) (n : ℕ) (rs ss : List R) → n ≤ length rs → drop n ss ≡ drop n rs → replicate n blank ++ drop n ss ≡ zeroed blank n rs
-zeroed_front blank n rs ss h e = let least : n ≡ min n (length rs) = omega arith in ap (λ xs. replicate n blank ++ xs) e ∙ ap (λ k. replicate k blank ++ drop n rs) least
-
--- and in all of them, where there are fewer
-pub zeroed_all : {R : Type 0} (blank : R) (n : ℕ) (rs ss : List R) → length rs ≤ n → length ss ≡ length rs → replicate (length rs) blank ++ drop (length rs) ss ≡ zeroed blank n rs
-zeroed_all blank n rs ss h e =
-    let least : length rs ≡ min n (length rs) = omega arith in
-    ap (λ xs. replicate (length rs) blank ++ xs) (drop_all (length rs) ss (omega arith)) ∙ ap (λ k. replicate k blank ++ []) least
-    ∙ ap (λ xs. replicate (min n (length rs)) blank ++ xs) (sym (drop_all n rs h))
-
-pub zeroed_none : {R : Type 0} (blank : R) (n : ℕ) (rs : List R) → length rs ≡ 0 → rs ≡ zeroed blank n rs
-zeroed_none blank n rs e =
-    nil_from_length rs e ∙ sym (ap (zeroed blank n) (nil_from_length rs e) ∙ none_of_none n)
-  where
-    none_of_none : (k : ℕ) → zeroed blank k [] ≡ []
-    none_of_none k = let least : min k 0 ≡ 0 = omega arith in ap (λ j. replicate j blank ++ drop k []) least ∙ drop_all k [] (omega arith)
-
 -- the answers in order: out of range first, then by what the search in range answers
 module _ {R : Type 0} (m : Meaning) (k : Kind R) (g : Leg) (records : ℕ) where
   pub answers_outside : outside m g ≡ true → measured m g records ≡ Err NoSuchSetting

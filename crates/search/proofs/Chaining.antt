@@ -13,10 +13,6 @@ bucket_below heads u h =
     let low : spread < 4294967296 = mod_below (u * 2654435769) 4294967296 (omega arith) in
     div_below (spread * heads) 4294967296 heads (omega arith) (omega (arith, mul-add-lt spread heads 0 4294967296 low h))
 
--- with no places there is nothing to find
-pub chained_none : (memory : List ℕ) (links heads : ℕ) → links + heads ≤ length memory → Chained memory links heads []
-chained_none memory links heads h = record { linked = omega arith; long = h; found = λ i below. absurd (omega arith) }
-
 -- a way down begins below the place before it
 pub down_below : (memory : List ℕ) (heads : ℕ) (ss : List ℕ) (b k above p i : ℕ) → Down memory heads ss b k above p i → p < above
 down_below memory heads ss b zero above p i d = d.0

@@ -6,4 +6,3 @@ pub mod Turns
 pub mod Walking
 pub mod Blanks
 pub mod Answering
-pub mod Left

@@ -26,6 +26,7 @@ impl<'a> Marks<'a> {
         ensures marks { (ss : List ℕ) → has ss setting ≡ false → Follows self.old ss → Follows self.new (ss ++ (setting ∷ [])) }
         ensures unmarks { (ss : List ℕ) → Follows self.old (setting ∷ ss) → Follows self.new ss }
     {
+        // Stays: with `get_mut` the check knows no more what the memory holds, also where there is no such word.
         let word = (setting / 32) as usize;
         if word >= self.memory.len() {
             return;

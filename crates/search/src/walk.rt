@@ -32,6 +32,7 @@ impl<'p, 'a, P: Plant, R: Record, L: Lookup<R>> Search<'p, 'a, P, R, L> {
         ensures task { self.new.task ≡ self.old.task }
         ensures lender { self.new.room.ghost_name ≡ self.old.room.ghost_name }
     {
+        // Stays: after `is_empty()` the check knows no more what the records hold.
         if self.room.len() == 0 {
             return Err(Overfull);
         }
