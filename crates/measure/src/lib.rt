@@ -12,7 +12,7 @@ use legs::leg::Leg;
 use plant::plant::Plant;
 use plant::refusal::Refusal;
 use search::clear::{clear_after, clear_all};
-use search::leg_search::{Reached, search_leg};
+use search::leg_search::search_leg;
 
 #[derive(Clone, Copy, PartialEq, Eq, Debug)]
 pub struct Measured {
@@ -37,15 +37,12 @@ pub fn measure<P: Plant>(
     ensures least { Measures (P.meaning plant.now) }
 {
     match search_leg(plant, leg, 0, records, index) {
-        Ok(
-            Reached {
-                length,
-                expanded,
-                ..
-            },
-        ) => {
+        Ok(reached) => {
             clear_all(records);
-            Ok(Measured { length, expanded })
+            Ok(Measured {
+                length: reached.length,
+                expanded: reached.expanded,
+            })
         }
         Err(refusal) => {
             clear_after(refusal, records);
