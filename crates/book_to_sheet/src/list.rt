@@ -2,7 +2,7 @@
 ghost use Rattle.std.specs.Prelude.{◌≤◌};
 
 // The list stands at the front of its place.
-// Stays: a place with the length beside it, since a plan writes into a place of 255 and there is no heap.
+// Stays: a place with the length beside it, since a plan writes into a place of 255; an `ArrayVec` would be a copy of it.
 #[derive(Clone, Copy)]
 pub(crate) struct List {
     pub(crate) count: u64,

@@ -7,6 +7,7 @@ use std::fmt;
 
 impl Layer {
     // The word of the layer.
+    // Stays: a word beside `Display`, since `Line` takes bytes.
     pub fn word(self) -> &'static str
         ensures { result.now ≡ layer_word self }
     {

@@ -40,7 +40,7 @@ impl<'a> Bodies<'a> {
         ensures { BodyIs (slice_get (parts_left self.entry) number) result }
     {
         let mut rest = self;
-        // Stays: rows are taken one after another, as in `check_bodies`.
+        // Stays: taken by `split_first`, as in `check_bodies`.
         for _before in 0..number {
             let (_, after) = rest.split_first()?;
             rest = after;
@@ -84,7 +84,7 @@ pub(crate) fn check_bodies(bodies: Bodies) -> Result<(), BodyFault>
     ensures { result_err result ≡ parts_fault bodies.entry.rows.bytes.now bodies.entry.rows.number (parts_left bodies.entry) }
 {
     let mut rest = bodies;
-    // Stays: rows are taken one after another, each by a slice pattern with the rest; a rule of the project.
+    // Stays: taken by `split_first`; an `Iterator` would need a second definition of what is left, and lemmas between the two.
     while let Some((body, after)) = rest.split_first() {
         if let Some(fault) = body_fault(bodies.rows, body) {
             return Err(fault);

@@ -62,7 +62,7 @@ pub(crate) fn check_rows(reader: Reader, rows: Rows) -> Result<(), ContentsFault
     ensures { result_err result ≡ rows_fault reader rows.entry.left rows.entry.number rows.entry.bytes.now }
 {
     let mut rest = rows;
-    // Stays: rows are taken one after another, each by a slice pattern with the rest; a rule of the project.
+    // Stays: taken by `split_first`; an `Iterator` would need a second definition of what is left, and lemmas between the two.
     while let Some((row, after)) = rest.split_first() {
         check_row(reader, row)?;
         rest = after;
@@ -77,7 +77,7 @@ pub(crate) fn rows_length(rows: Rows) -> usize
 {
     let mut rest = rows;
     let mut total = 0usize;
-    // Stays: rows are taken one after another, each by a slice pattern with the rest; a rule of the project.
+    // Stays: taken by `split_first`; an `Iterator` would need a second definition of what is left, and lemmas between the two.
     while let Some((row, after)) = rest.split_first() {
         total += row.length as usize;
         rest = after;

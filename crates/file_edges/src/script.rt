@@ -3,10 +3,8 @@
 use crate::bytes::bytes_of;
 use anyhow::{Context, anyhow};
 use book::first_book_fault;
-use fault_line::line::Line;
 use faults::fault::FileFault;
 use sheet_reader::read_sheet;
-use std::io::Write;
 
 pub(crate) fn run_line(rt: &HostRuntime, line: &str) -> anyhow::Result<()> {
     if line.starts_with('#') {
@@ -34,17 +32,10 @@ fn fault_of(rt: &HostRuntime, line: &str) -> anyhow::Result<Option<FileFault>> {
     }
 }
 
-// Stays: the bytes of `Line` and no `Display`, since they are what is tried here.
 fn tell(rt: &HostRuntime, name: &str, fault: Option<FileFault>) -> anyhow::Result<()> {
     match fault {
-        Some(fault) => {
-            print!(rt; "{name}: ")?;
-            let line = Line::of(fault);
-            rt.stdout().write_all(line.as_bytes())?;
-        }
-        None => {
-            println!(rt; "{name}: accepted")?;
-        }
+        Some(fault) => println!(rt; "{name}: {fault}")?,
+        None => println!(rt; "{name}: accepted")?,
     }
     Ok(())
 }

@@ -8,6 +8,7 @@ ghost use Rattle.numbers.specs.Low.{low, value};
 pub fn write_number(part: &mut [u8], number: u64)
     ensures { part.new ≡ low (length part.old) number }
 {
+    // Stays: byte by byte, since a part may be longer than the eight bytes of `to_le_bytes`.
     let mut left = number;
     for byte in part.iter_mut() {
         *byte = (left % 256) as u8;

@@ -12,6 +12,7 @@ pub struct Pair<F: Plant, S: Plant> {
     first: F,
     second: S,
     // what the two answer of their sizes, since asking again would cost as much as a step
+    // Stays: a flag beside sizes, which are told in any case: too large a pair has one setting and no operation.
     large: bool,
     settings: u32,
     operations: u16,

@@ -15,8 +15,5 @@ pub(crate) fn lowest_step<P: Plant>(plant: &P, start: u32, target: u32) -> Optio
 fn steps_to<P: Plant>(plant: &P, start: u32, operation: u16, target: u32) -> bool
     ensures { TellsStep (P.meaning plant.now) start operation target result }
 {
-    match plant.step(start, operation) {
-        Some(setting) => setting == target,
-        None => false,
-    }
+    plant.step(start, operation) == Some(target)
 }

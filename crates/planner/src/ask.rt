@@ -78,6 +78,7 @@ pub(crate) fn ask_plan<P: Plant>(
     }
 }
 
+// Stays: a place with the length beside it, since a plan writes into a place of 255.
 // Each operation of the list, with the setting that it leads to.
 fn show_list<P: Plant>(
     rt: &HostRuntime,

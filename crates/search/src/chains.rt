@@ -8,7 +8,7 @@ use crate::lookup::{Lookup, stands};
 use crate::record::Record;
 
 // A link for each place stands in front, and behind them a head for each bucket; no heads where the chains are given up.
-// Stays: numbers beside the memory, since it is the caller's.
+// Stays: numbers beside the memory, since it is one slice of the caller's: links in front, and heads as far as it goes.
 #[derive(Drop)]
 pub(crate) struct Chains<'a> {
     pub(crate) memory: &'a mut [u32],

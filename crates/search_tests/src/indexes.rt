@@ -1,7 +1,6 @@
 // The same answers with every index: none, one number, enough for chains, and enough for marks.
 use crate::asks::{leg, measured, planned, track, used};
 use crate::place::{is_all, is_written};
-use crate::records::ZERO;
 use legs::leg::Leg;
 use legs::relayed::Relayed;
 use measure::measure;
@@ -10,7 +9,6 @@ use std::test::Fail;
 use track::link::Link;
 use track::track::Track;
 
-// Stays: numbers for refusals, as in `asks`.
 // A ring of eight among five hundred stations, of which the others have no link: 16 numbers have a bit for each.
 fn ring() -> Result<Track, Fail> {
     let links = [
@@ -26,6 +24,7 @@ fn ring() -> Result<Track, Fail> {
     track(500, &links)
 }
 
+// Stays: numbers for refusals, as in `asks`.
 // Lends so many numbers, at most 16, that hold places of records at first.
 fn measure_lent(
     ring: &Track,
@@ -60,7 +59,7 @@ fn the_same_list(rt: HostRuntime) -> Result<(), Fail> {
         let mut place = [9u16; 255];
         assert_eq!(rt;
             plan_six(&ring, leg(0, 4, 255), lent, &mut place),
-            (Ok((4, 20)), [ZERO; 6])
+            (Ok((4, 20)), [Relayed::default(); 6])
         );
         assert!(rt; is_written(&place, &[1, 7, 6, 5]));
     }
@@ -74,11 +73,11 @@ fn the_same_refusals(rt: HostRuntime) -> Result<(), Fail> {
         let mut place = [9u16; 255];
         assert_eq!(rt;
             plan_six(&ring, leg(0, 4, 3), lent, &mut place),
-            (Err(7), [ZERO; 6])
+            (Err(7), [Relayed::default(); 6])
         );
         assert_eq!(rt;
             plan_six(&ring, leg(0, 9, 255), lent, &mut place),
-            (Err(7), [ZERO; 6])
+            (Err(7), [Relayed::default(); 6])
         );
         assert!(rt; is_all(&place, 9));
     }

@@ -2,10 +2,9 @@
 
 // Whether the list stands at the front of the place, with zero behind it.
 pub(crate) fn is_written(place: &[u16], list: &[u16]) -> bool {
-    match place.split_at_checked(list.len()) {
-        Some((front, behind)) => front == list && is_all(behind, 0),
-        None => false,
-    }
+    place
+        .split_at_checked(list.len())
+        .is_some_and(|(front, behind)| front == list && is_all(behind, 0))
 }
 
 // Whether every number of the place is this one.

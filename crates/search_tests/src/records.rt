@@ -10,12 +10,6 @@ pub(crate) fn hold(records: &[Relayed], one: Relayed) -> bool {
     records.iter().all(|record| *record == one)
 }
 
-// Stays: written out, since a constant cannot call `default`.
-pub(crate) const ZERO: Relayed = Relayed {
-    setting: 0,
-    relay: 0,
-};
-
 #[test]
 fn zero_after_layers(rt: HostRuntime) -> Result<(), Fail> {
     let bench = bench_a();
@@ -25,19 +19,19 @@ fn zero_after_layers(rt: HostRuntime) -> Result<(), Fail> {
         plan_in(&bench, leg(0, 2, 4), &mut records, &mut place),
         Ok((4, 16))
     );
-    assert!(rt; hold(&records, ZERO));
+    assert!(rt; hold(&records, Relayed::default()));
     let mut records = [used(); 3];
     assert_eq!(rt;
         plan_in(&bench, leg(0, 2, 4), &mut records, &mut place),
         Err(6)
     );
-    assert!(rt; hold(&records, ZERO));
+    assert!(rt; hold(&records, Relayed::default()));
     let mut records = [used(); 6];
     assert_eq!(rt;
         plan_in(&bench, leg(0, 2, 3), &mut records, &mut place),
         Err(7)
     );
-    assert!(rt; hold(&records, ZERO));
+    assert!(rt; hold(&records, Relayed::default()));
     Ok(())
 }
 

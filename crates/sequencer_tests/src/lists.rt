@@ -1,7 +1,8 @@
 // Lists worked along: one that has an operation twice, the empty one, and the longest.
 use crate::samples::{
-    BLANK, Call, bare, check_accepted, check_refused, listed, row_of_stations, sequencer_a,
+    Call, bare, check_accepted, check_refused, listed, row_of_stations, sequencer_a,
 };
+use legs::relayed::Relayed;
 use plant::refusal::Refusal;
 use sequencer::sequencer::Sequencer;
 use std::test::Fail;
@@ -84,9 +85,9 @@ fn a_new_plan(rt: HostRuntime) -> Result<(), Fail> {
 #[test]
 fn the_longest_list(rt: HostRuntime) -> Result<(), Fail> {
     let mut sequencer = Sequencer::new(row_of_stations(&rt)?);
-    let mut records = [BLANK; 6];
+    let mut records = [Relayed::default(); 6];
     assert_eq!(rt;
-        sequencer.plan(255, 255, &mut [BLANK; 5], &mut []),
+        sequencer.plan(255, 255, &mut [Relayed::default(); 5], &mut []),
         Err(Refusal::Overfull)
     );
     assert_eq!(rt;

@@ -1,7 +1,5 @@
 // Each call refused for each of its reasons: nothing that the sequencer tells is changed.
-use crate::samples::{
-    BLANK, Call, bare, check_accepted, check_refused, check_told, listed, sequencer_a,
-};
+use crate::samples::{Call, bare, check_accepted, check_refused, check_told, listed, sequencer_a};
 use legs::relayed::Relayed;
 use plant::refusal::Refusal;
 use sample_plants::bench_a;
@@ -119,7 +117,7 @@ fn records_of_refused_plans(rt: HostRuntime) -> Result<(), Fail> {
         sequencer.plan(2, 3, &mut records, &mut []),
         Err(Refusal::OutOfReach)
     );
-    assert_eq!(rt; records[3], BLANK);
+    assert_eq!(rt; records[3], Relayed::default());
     check_told(&rt, &sequencer, bare(0, &[]));
     Ok(())
 }

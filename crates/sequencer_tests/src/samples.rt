@@ -34,13 +34,6 @@ pub(crate) fn row_of_stations(rt: &HostRuntime) -> Result<Track, Fail> {
 // The most records that a call is lent.
 pub const RECORDS: usize = 12;
 
-// A record of zeros.
-// Stays: written out, since a constant cannot call `default`.
-pub const BLANK: Relayed = Relayed {
-    setting: 0,
-    relay: 0,
-};
-
 // A call of a sequencer. A plan has its target, its bound, and how many records it is lent.
 #[derive(Clone, Copy)]
 pub enum Call {
@@ -71,7 +64,7 @@ fn plan<P: Plant>(
     bound: u16,
     lent: usize,
 ) -> Result<(), Refusal> {
-    let mut records = [BLANK; RECORDS];
+    let mut records = [Relayed::default(); RECORDS];
     let _count = sequencer.plan(target, bound, &mut records[..lent.min(RECORDS)], &mut [])?;
     Ok(())
 }

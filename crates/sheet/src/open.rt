@@ -45,6 +45,7 @@ impl OpenSheet {
         Ok(())
     }
 
+    // Stays: the answer as a number, since a body with a wrong one is refused by its rule.
     // Writes a body straight behind the one before and fills its row. Refuses a body that breaks its rule, then one
     // more than declared, then one for which the buffer has no room; a refusal changes nothing.
     pub fn put(

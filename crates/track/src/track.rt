@@ -11,7 +11,7 @@ pub mod questions;
 #[derive(Clone, Copy)]
 pub struct Track {
     stations: u16,
-    // Stays: an array with a count beside it, since `ArrayVec` is not `Copy`, and a track is
+    // Stays: an array with a count beside it, since a track is `Copy` and an `ArrayVec` is not.
     count: u16,
     links: [Link; 1024],
     ghost room: { length links ≡ 1024 },

@@ -16,6 +16,7 @@ use tagged::tagged::Tagged;
 // What an index holds at first does not matter: these numbers are places of records.
 const HELD: u32 = 2;
 
+// Stays: an option, since what differs first is the answer, and no failure of the program.
 pub(crate) fn compare_measure<P: Plant>(
     heap: Global,
     plant: &Tagged<P>,
@@ -120,8 +121,7 @@ fn judge_plan(
 
 // Whether the list stands at the front of the place, with zero behind it.
 fn is_written(place: &[u16], list: &[u16]) -> bool {
-    match place.split_at_checked(list.len()) {
-        Some((front, behind)) => front == list && behind.iter().all(|operation| *operation == 0),
-        None => false,
-    }
+    place.split_at_checked(list.len()).is_some_and(|(front, behind)| {
+        front == list && behind.iter().all(|operation| *operation == 0)
+    })
 }

@@ -57,6 +57,7 @@ impl Vector {
     }
 }
 
+// Stays: `take` answers whether the part was one of these, since the three are asked one after another.
 impl Description {
     fn empty(heap: Global) -> Description {
         Description {

@@ -7,6 +7,7 @@ use tagged::tagged::Tagged;
 use track::track::Track;
 use valves::bench::Bench;
 
+// Stays: no `Display`, since a setting is told by its plant.
 pub trait Describe {
     fn describe(&self, heap: Global, setting: u32) -> Result<String, AllocError>;
 }

@@ -3,7 +3,7 @@ ghost use Rattle.std.specs.Prelude.{◌≤◌};
 
 pub mod work;
 
-// Stays: an array and two places, since a list takes no memory from a heap and a plan writes into a place of 255.
+// Stays: an array and two places, since a plan writes into a place of 255, and its front is done one by one.
 #[derive(Drop)]
 pub struct Table {
     operations: [u16; 255],

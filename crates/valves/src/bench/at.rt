@@ -56,7 +56,7 @@ impl ValveAt<'_> {
         ensures { result ≡ any_bars self.entry.valve from to (placed self.entry.bench.now self.entry.setting) (interlocks_of self.entry.bench.now) }
     {
         let mut at = self.bench.valves[self.valve].first as usize;
-        // Stays: the rows of a valve are linked by their numbers, since there is no heap.
+        // Stays: the rows of a valve are linked by their numbers; a pass over all rows would take up to 32 turns in each step.
         while let Some(row) = self.bench.rows.get(at) {
             if self.applies(row.lock, from, to) {
                 return true;

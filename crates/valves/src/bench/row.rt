@@ -5,6 +5,6 @@ use crate::interlock::Interlock;
 pub(crate) struct Row {
     pub(crate) lock: Interlock,
     // the row of the next interlock of the same valve; the number of interlocks where there is none
-    // Stays: the interlocks of a valve are linked by the numbers of their rows, since there is no heap
+    // Stays: linked by their numbers, since there is no heap.
     pub(crate) following: u8,
 }
