@@ -14,19 +14,19 @@ import sys
 
 # Point, name of the pattern, pattern. They are tried on the text of a file with its comments blanked out.
 PATTERNS = [
-    (1, "arm that an option's or a result's method or `?` does", r"None => (?:None\b|\{\}|return\b)|Some\(_\) => (?:true|false|None\b|return\b)|Err\(_\) => (?:None\b|false\b|return\b|Err\()|Err\((\w+)\) => (?:Err|Some)\(\1\b"),
+    (1, "arm that an option's or a result's method or `?` does", r"None => (?:None\b|false\b|\{\}|return\b)|Some\(_\) => (?:true|false|None\b|return\b)|Err\(_\) => (?:None\b|false\b|return\b|Err\()|Err\((\w+)\) => (?:Err|Some)\(\1\b"),
     (1, "let else that only hands on", r"let (?:Some|Ok)\([^=;{}]*\) = [^;{}]*? else \{\s*return (?:None|Err\(anyhow|Some\(0\))"),
     (1, "bool for done or not", r"fn (?:push|offer|attempt|expand_record|expand_layer|put_entry|fill)\b(?:(?!\bfn\b)[^{])*?-> bool\b"),
     (1, "none for too little room", r"fn (?:run|walk_leg|walk_by|fetch|write_sheet)\b(?:(?!\bfn\b)[^{])*?-> Option<"),
     (1, "flag beside the value", r"\bheld: bool,"),
     (1, "own shape of a result", r"\bpub\(crate\) answer: u8,|\bpub\(crate\) fault: Option<"),
-    (1, "check that answers its fault as an option", r"(?m)^ *(?:pub\(crate\) )?fn \w*(?:fault|refusal)\w*(?:<[^(]*>)?\((?:(?!\bfn\b)[^{])*?-> Option<\w*(?:Fault|Refusal)>"),
-    (1, "number for a kind, a way or a refusal", r"(?<!fn try_from\()\b(?:kind|byte|way): u8\b|Result<[^;{}=]*, u8>"),
+    (1, "check that answers its fault as an option", r"(?m)^ *(?:pub\(crate\) )?fn \w*(?:fault|refusal)\w*(?:<[^(]*>)?\((?:(?!\bfn\b)[^{])*?-> Option<\w*(?:Fault|Refusal)>|-> anyhow::Result<Option<Difference>>"),
+    (1, "number for a kind, a way or a refusal", r"(?<!fn try_from\()\b(?:kind|byte|way|answer): u8\b|Result<[^;{}=]*, u8>"),
     (3, "while or loop", r"(?m)^ *(?:while|loop)\b"),
     (3, "loop that a library method does", r"for (\w+) in [^{\n]*\{\s*(?:if [^{]*\{\s*return (?:true|false);\s*\}|\*\1 = 0;|self\.push\(\*\1\);)\s*\}"),
     (3, "rows taken off what is left, or counted beside the loop", r"let mut rest = \w+;|\b(?:count|row) [+-]= 1;"),
     (4, "number of an enum by a match", r"fn (?:code|kind_of)\([^{]*\{[^{}]*\}\s*\{\s*match"),
-    (4, "text of an enum or of an answer by a function", r"fn (?:text|tell|tell_count|refuse|layer_word)\b"),
+    (4, "text of an enum or of an answer by a function", r"fn (?:text|tell|tell_count|refuse|layer_word|word\(self)\b"),
     (4, "decimal by hand", r"\b48 \+ "),
     (4, "zero by hand", r"Relayed \{\s*setting: 0,\s*relay: 0,?\s*\}|Interlock \{\s*valve: 0,\s*position: 0,\s*other: 0,\s*stands: 0,?\s*\}|Link \{ one: 0, other: 0 \}|Question \{\s*start: 0,"),
     (4, "text made to be appended", r"format!\(in [^)]*\(\); [^)]*\)\?\.as_str\(\)|format!\(in heap; [^)]*\)\?;\s*text\.push_str"),
@@ -74,7 +74,8 @@ def arrays(text):
         body = block(text, m.end() - 1)
         found = [m.end() - 1 + a.start() for a in re.finditer(r"\w+: \[\w+; \w+\],", body)]
         counts = re.search(r"\b(?:valves|rows|count|length|begins|end): (?:u8|u16|usize),", body)
-        if counts or len(found) > 1:
+        sizes = re.findall(r"; (\w+)\],", body)
+        if counts or len(sizes) > len(set(sizes)):
             yield from found
 
 
