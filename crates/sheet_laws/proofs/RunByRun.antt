@@ -7,7 +7,7 @@ use Rattle.sheet.specs.Bytes.{body_length, zeros, sheet_bytes}
 use Rattle.sheet.specs.States.{State, open_refusal, close_refusal, Written}
 use Rattle.sheet.proofs.Acceptance.{accepted_keeps, accepted_few}
 use Rattle.sheet.proofs.Growth.{written_more}
-use Rattle.sheet.proofs.Completion.{completes}
+use Rattle.sheet_laws.proofs.Completion.{completes}
 use Rattle.sheet.proofs.Lengths.{length_sheet}
 use Rattle.sheet_reader.proofs.ReadBack.{reads_back}
 use Rattle.sheet_laws.specs.Runs.{Run, begun, step, Accepted, after, all_fit, PutAndRead}
