@@ -2,7 +2,6 @@
 -- lawful meaning.
 use Rattle.std.proofs.Common.{◌≡◌, ℕ, ◌+◌, ◌-◌, ◌/◌, ◌<◌, ◌≤◌, List, [], ◌∷◌, ◌++◌, length, set, Some, None, Ok, Err, Result, sym, refl, ap, ◌∙◌, subst, ⊎_elim, arith}
 use Rattle.std.specs.Result.{result_ok}
-use Rattle.std.proofs.lemmas.List.{nil_from_length}
 use Rattle.std.proofs.lemmas.Bool.{cases_lt}
 use Rattle.plant.specs.Meaning.{Meaning, Steps, Leads}
 use Rattle.plant.specs.Laws.{Lawful}
@@ -16,7 +15,7 @@ use Rattle.legs.specs.Relays.{relays}
 use Rattle.legs.specs.Answers.{measured}
 use Rattle.legs.specs.Plans.{halfway, fetch_leg, fetch_legs, count, most_need}
 use Rattle.legs.specs.PlanLaws.{InRange}
-use Rattle.legs.proofs.Fetch.{no_halves, first_half, second_half, halves_joined, relays_halfway, earliest_zero, earliest_one}
+use Rattle.legs.proofs.Fetch.{no_halves, first_half, second_half, halves_joined, relays_halfway, earliest_one}
 use Rattle.legs.proofs.Counts.{fetch_count, fetch_need, halfway_below, expanded_few}
 use Rattle.legs.proofs.PlanLaws.{plans_lawful}
 use Rattle.search.specs.declared.leg_search.Reached.{Reached}
@@ -39,21 +38,6 @@ module _ (m : Meaning) (lawful : Lawful m) where
   no_legs n s t records list low e =
       let none = no_halves m n s t low in
       (e, sym (ap (count m) none), omega (arith, ap (most_need m) none), omega arith)
-
-  pub fetched_none : (n s t records : ℕ) (list : List ℕ) → n ≡ 0 → length list ≡ n → Distance m n s t → Fetched m n s t records list (Some 0)
-  fetched_none n s t records list zero-long long d = no_legs n s t records list (omega arith) found
-    where
-      empty_way : (os : List ℕ) → length os ≡ 0 → Leads m s os t → s ≡ t
-      empty_way [] l h = h
-      empty_way (o ∷ os) l h = absurd (omega arith)
-
-      same : s ≡ t
-      same = empty_way d.0.0 (d.0.1 ∙ zero-long) d.0.2
-
-      found : earliest m n s t ≡ Some list
-      found =
-          ap (λ k. earliest m k s t) zero-long ∙ ap (earliest m 0 s) (sym same) ∙ earliest_zero m lawful s
-          ∙ ap Some (sym (nil_from_length list (long ∙ zero-long)))
 
   pub fetched_one : (n s t records o : ℕ) (list : List ℕ) → n ≡ 1 → length list ≡ n → Lowest m s t (Some o) → Fetched m n s t records (set list 0 o) (Some 0)
   fetched_one n s t records o list one long low =

@@ -3,12 +3,8 @@ use Rattle.std.proofs.Common.{◌≡◌, ◌-◌, ◌/◌, ◌≤◌, length, So
 use Rattle.legs.specs.Plans.{fetch_leg}
 use Rattle.legs.specs.Relays.{relays}
 use Rattle.plan.specs.Fetched.{Fetched}
-use Rattle.plan.proofs.Fetching.{Halves, fetched_none, fetched_one, some_lowest, leg_refused, leg_answered, leg_overfull, leg_few, relay_in, first_distance, second_distance, first_overfull, second_overfull, fetched_both}
+use Rattle.plan.proofs.Fetching.{Halves, fetched_one, some_lowest, leg_refused, leg_answered, leg_overfull, leg_few, relay_in, first_distance, second_distance, first_overfull, second_overfull, fetched_both}
 use Rattle.plan.proofs.fetch.+fetch.Goals as goal
-
-pub returns-then-count-eq0 : goal.returns-then-count-eq0
-returns-then-count-eq0 g t c =
-    fetched_none (g.P.Plant.meaning c.args.plant.now) (g.met.P.Plant.lawful c.args.plant.now) _ c.args.start c.args.target (length c.args.records.now) c.args.list.now c.if-count-eq0.true refl c.requires.distance
 
 pub returns-in_err-list : goal.returns-in_err-list
 returns-in_err-list g t c =
