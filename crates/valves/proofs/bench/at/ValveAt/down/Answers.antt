@@ -2,7 +2,7 @@
 use Rattle.std.proofs.Common.{◌<◌, sym, ap, ◌∙◌, get_or, arith}
 use Rattle.valves.specs.Interlocks.{barred}
 use Rattle.valves.specs.Of.{interlocks_of, placed}
-use Rattle.valves.proofs.Steps.{down_fits, down_at_end, down_barred, down_free}
+use Rattle.valves.proofs.Steps.{down_at_end, down_barred, down_free}
 use Rattle.valves.proofs.bench.at.ValveAt.down.Goals as goal
 
 pub returns-in_err-to : goal.returns-in_err-to
@@ -23,13 +23,6 @@ returns-then-barred c =
     let p = c.stands-from.result in
     down_barred b a.setting a.valve x p a.inside a.there is c.stands-from.ensures.digit c.in_ok-to.ensures.0
     (ap (λ q. barred a.valve p q (placed b a.setting) (interlocks_of b)) (sym c.in_ok-to.ensures.1) ∙ (sym c.barred.ensures ∙ c.if-barred.true))
-
-pub overflow_sub-result : goal.overflow_sub-result
-overflow_sub-result c =
-    let x = c.index-deref-self.result in
-    let a = c.args.self in
-    let is = c.index-deref-self.is ∙ ap (λ l. get_or l a.valve x) c.deref.ensures.0 in
-    down_fits a.bench.now a.setting a.valve x c.stands-from.result a.inside a.there is c.stands-from.ensures.digit c.in_ok-to.ensures.0
 
 pub returns : goal.returns
 returns c =
