@@ -1,7 +1,6 @@
 pub mod Scanning
 pub mod Chaining
 pub mod Marking
-pub mod Storing
 pub mod Turns
 pub mod Walking
 pub mod Blanks

@@ -73,9 +73,6 @@ module _ (b : Bench) (s v : ℕ) (x : Valve) (p : ℕ) (inside : s < b.settings)
   down_is : gone_down (counts_of b) (interlocks_of b) (placed b s) v ≡ landed (counts_of b) (interlocks_of b) v (placed b s) p (lowered p)
   down_is = ap (λ y. landed (counts_of b) (interlocks_of b) v (placed b s) y (lowered y)) (sym (placed_at b s v x p there is at))
 
-  pub down_fits : 0 < p → x.weight ≤ s
-  down_fits h = omega (arith, down_sum h)
-
   pub down_at_end : p < 1 → None ≡ gone_down (counts_of b) (interlocks_of b) (placed b s) v
   down_at_end h =
       let end : p ≤ 0 = omega arith in
