@@ -1,19 +1,18 @@
 -- The rows of one valve's interlocks, found one after another, and that no other row bars it. Assumes nothing.
-use Rattle.std.proofs.Common.{◌≡◌, ℕ, suc, ◌+◌, ◌-◌, ◌<◌, ◌≤◌, Bool, true, false, cond, not, ◌&&◌, ◌||◌, eqb, List, [], ◌∷◌, length, get_or, drop, sym, refl, ap, ◌∙◌, add-one, arith, length-drop}
-use Rattle.std.specs.List.{position_or_len}
-use Rattle.std.proofs.lemmas.List.{drop_more, drop_all, drop-drop, get_or-drop}
-use Rattle.std.proofs.lemmas.Bool.{eqb-true, eq-eqb, and_left}
+use Rattle.std.proofs.Common.{◌≡◌, ℕ, suc, ◌+◌, ◌-◌, ◌<◌, ◌≤◌, Bool, true, false, cond, ◌&&◌, ◌||◌, eqb, List, [], ◌∷◌, length, get_or, drop, set, sym, refl, ap, ◌∙◌, ⊎_elim, add-one, arith, length-drop, get_or-set_other, get_or-set_same}
+use Rattle.std.proofs.lemmas.List.{drop_more, drop_all, drop-drop, get_or-drop, get_or_default}
+use Rattle.std.proofs.lemmas.Bool.{cases_eq, eqb-true, eq-eqb, ne_eqb, cond-true, cond-false, and_left}
 use Rattle.valves.specs.declared.interlock.Interlock.{Interlock}
 use Rattle.valves.specs.Interlocks.{applies_to, bars, barred, row_of, row_from}
 
--- the first row of a valve, counted from r, by its place
-counted_by : (b : Bool) (r n m : ℕ) → suc r + n ≡ m → r + cond (not b) (1 + n) 0 ≡ cond b r m
-counted_by true r n m h = omega arith
-counted_by false r n m h = omega arith
+-- one row further
+pub row_more : (ls : List Interlock) (v r : ℕ) (d : Interlock) → r < length ls → row_from ls v r ≡ cond (eqb (get_or ls r d).valve v) r (row_from ls v (suc r))
+row_more ls v r d h =
+    ap (λ x. row_of v x r) (drop_more ls r d h) ∙ ap (λ x. cond (eqb (get_or ls r d).valve v) r (row_of v (drop x ls) (suc r))) (add-one r)
 
-pub row_of_place : (ls : List Interlock) (v r : ℕ) → r + position_or_len (λ x. eqb x.valve v) ls ≡ row_of v ls r
-row_of_place [] v r = omega arith
-row_of_place (l ∷ ls) v r = counted_by (eqb l.valve v) r (position_or_len (λ x. eqb x.valve v) ls) (row_of v ls (suc r)) (row_of_place ls v (suc r))
+-- past the last row there is none
+pub row_past : (ls : List Interlock) (v r : ℕ) → length ls ≤ r → row_from ls v r ≡ r
+row_past ls v r h = ap (λ x. row_of v x r) (drop_all r ls h)
 
 -- the first of some rows is not before them, and not past their end
 fits_by : (b : Bool) (r f n : ℕ) → (suc r ≤ f) × (f ≤ suc r + n) → (r ≤ cond b r f) × (cond b r f ≤ r + suc n)
@@ -92,3 +91,31 @@ module _ (v p q : ℕ) (ps : List ℕ) where
   -- one row more
   pub barred_row : (ls : List Interlock) (r : ℕ) (d : Interlock) → r < length ls → barred v p q ps (drop r ls) ≡ (bars v p q ps (get_or ls r d) || barred v p q ps (drop (suc r) ls))
   barred_row ls r d h = ap (barred v p q ps) (drop_more ls r d h) ∙ ap (λ x. bars v p q ps (get_or ls r d) || barred v p q ps (drop x ls)) (add-one r)
+
+-- the tables with one row more in front
+module _ (ls : List Interlock) (r : ℕ) (d : Interlock) (within : r < length ls) where
+  pub first_more : (first : List ℕ) (k : ℕ) → k ≤ length first → ((v : ℕ) → v < k → get_or first v 0 ≡ row_from ls v (suc r)) → (get_or ls r d).valve < k → (v : ℕ) → v < k → get_or (set first (get_or ls r d).valve r) v 0 ≡ row_from ls v r
+  first_more first k long so inside v h = ⊎_elim same other (cases_eq v (get_or ls r d).valve)
+    where
+      same : v ≡ (get_or ls r d).valve → get_or (set first (get_or ls r d).valve r) v 0 ≡ row_from ls v r
+      same e =
+          ap (λ x. get_or (set first (get_or ls r d).valve r) x 0) e
+          ∙ (get_or-set_same first (get_or ls r d).valve r 0 (omega arith)
+          ∙ sym (row_more ls v r d within ∙ cond-true (eqb (get_or ls r d).valve v) r (row_from ls v (suc r)) (eq-eqb _ _ (sym e))))
+
+      other : (v ≡ (get_or ls r d).valve → ⊥) → get_or (set first (get_or ls r d).valve r) v 0 ≡ row_from ls v r
+      other ne =
+          get_or-set_other first (get_or ls r d).valve v r 0 ne
+          ∙ (so v h ∙ sym (row_more ls v r d within ∙ cond-false (eqb (get_or ls r d).valve v) r (row_from ls v (suc r)) (ne_eqb _ _ (λ e. ne (sym e)))))
+
+  pub following_more : (following : List ℕ) (next : ℕ) → length ls ≤ length following → next ≡ row_from ls (get_or ls r d).valve (suc r) → ((i : ℕ) (e : Interlock) → suc r ≤ i → i < length ls → get_or following i 0 ≡ row_from ls (get_or ls i e).valve (suc i)) → (i : ℕ) (e : Interlock) → r ≤ i → i < length ls → get_or (set following r next) i 0 ≡ row_from ls (get_or ls i e).valve (suc i)
+  following_more following next long is so i e h k = ⊎_elim same other (cases_eq i r)
+    where
+      same : i ≡ r → get_or (set following r next) i 0 ≡ row_from ls (get_or ls i e).valve (suc i)
+      same q =
+          ap (λ x. get_or (set following r next) x 0) q
+          ∙ (get_or-set_same following r next 0 (omega arith)
+          ∙ (is ∙ (ap (λ x. row_from ls x.valve (suc r)) (get_or_default ls r d e within) ∙ ap (λ x. row_from ls (get_or ls x e).valve (suc x)) (sym q))))
+
+      other : (i ≡ r → ⊥) → get_or (set following r next) i 0 ≡ row_from ls (get_or ls i e).valve (suc i)
+      other ne = get_or-set_other following r i next 0 ne ∙ so i e (omega arith) k

@@ -28,6 +28,13 @@ abbrev pub interlocks_fault : List ℕ → List Interlock → ℕ → Option Ben
 interlocks_fault ns [] r = None
 interlocks_fault ns (l ∷ ls) r = either_fault (interlock_fault ns l r) (interlocks_fault ns ls (suc r))
 
+-- what comes before the interlocks, where there are n: number of valves, number of interlocks, positions
+abbrev pub sizes_fault : List ℕ → ℕ → Option BenchFault
+sizes_fault ns n =
+    cond (nat_lt (length ns) 1 || nat_lt 12 (length ns)) (Some Valves)
+    (cond (nat_lt 32 n) (Some Interlocks)
+    (positions_fault ns 0))
+
 -- the first fault of all: number of valves, number of interlocks, positions, interlocks
 abbrev pub bench_fault : List ℕ → List Interlock → Option BenchFault
 bench_fault ns ls =

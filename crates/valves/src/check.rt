@@ -1,7 +1,7 @@
 // Checks the data of a bench: the number of valves, the number of interlocks, the positions, the interlocks.
 ghost use Rattle.std.specs.Prelude.{◌≡◌, ◌≤◌, ◌↔◌, length, None};
 ghost use Rattle.std.specs.Result.{result_err};
-ghost use Rattle.valves.specs.Faults.{positions_fault, interlock_fault, interlocks_fault, bench_fault};
+ghost use Rattle.valves.specs.Faults.{positions_fault, interlock_fault, interlocks_fault, sizes_fault, bench_fault};
 ghost use Rattle.valves.specs.Data.{BenchData};
 
 use crate::fault::BenchFault;
@@ -27,14 +27,22 @@ pub fn first_fault(positions: &[u8], interlocks: &[Interlock]) -> Option<BenchFa
 pub(crate) fn check(positions: &[u8], interlocks: &[Interlock]) -> Result<(), BenchFault>
     ensures { result_err result ≡ bench_fault positions.now interlocks.now }
 {
+    check_sizes(positions, interlocks.len())?;
+    check_interlocks(positions, interlocks)
+}
+
+// What comes before the interlocks, of which there are so many: their number, and the valves. For callers that take the
+// interlocks one by one from where they lie.
+pub fn check_sizes(positions: &[u8], interlocks: usize) -> Result<(), BenchFault>
+    ensures { result_err result ≡ sizes_fault positions.now interlocks }
+{
     if positions.is_empty() || positions.len() > VALVES {
         return Err(BenchFault::Valves);
     }
-    if interlocks.len() > INTERLOCKS {
+    if interlocks > INTERLOCKS {
         return Err(BenchFault::Interlocks);
     }
-    check_positions(positions)?;
-    check_interlocks(positions, interlocks)
+    check_positions(positions)
 }
 
 // Each valve has 2 to 4 positions.
@@ -61,8 +69,8 @@ fn check_interlocks(positions: &[u8], interlocks: &[Interlock]) -> Result<(), Be
     Ok(())
 }
 
-// The fields of one interlock.
-fn check_row(positions: &[u8], lock: Interlock, row: u8) -> Result<(), BenchFault>
+// The fields of one interlock, in this row.
+pub fn check_row(positions: &[u8], lock: Interlock, row: u8) -> Result<(), BenchFault>
     ensures { result_err result ≡ interlock_fault positions.now lock row }
 {
     let own = positions

@@ -4,7 +4,7 @@ ghost use Rattle.valves.specs.Data.{BenchData};
 ghost use Rattle.valves.specs.Of.{counts_of, interlocks_of, Makes};
 
 use crate::bench::Bench;
-use crate::bench::tables::{rows_of, valves_of};
+use crate::bench::tables::{Chains, chains_of, rows_of, valves_of};
 use crate::check::check;
 use crate::fault::BenchFault;
 use crate::interlock::Interlock;
@@ -24,10 +24,11 @@ fn make(positions: &[u8], interlocks: &[Interlock]) -> Bench
     ensures counts { counts_of result ≡ positions.now }
     ensures locks { interlocks_of result ≡ interlocks.now }
 {
-    let (valves, settings) = valves_of(positions, interlocks);
+    let Chains { first, following } = chains_of(interlocks);
+    let (valves, settings) = valves_of(positions, &first);
     Bench {
         valves,
-        rows: rows_of(interlocks),
+        rows: rows_of(interlocks, &following),
         settings,
     }
 }

@@ -3,8 +3,7 @@ use Rattle.std.proofs.Common.{◌≡◌, ℕ, suc, ◌*◌, ◌<◌, List, [], �
 use Rattle.std.proofs.lemmas.List.{length-map, length-take-le, map-append, take_more}
 use Rattle.valves.specs.declared.bench.valve.Valve.{Valve}
 use Rattle.valves.specs.Positions.{weight}
-use Rattle.valves.specs.Interlocks.{row_from}
-use Rattle.valves.specs.Held.{weights_in, firsts_in}
+use Rattle.valves.specs.Held.{weights_in}
 use Rattle.valves.specs.Numbering.{weight_more, weight_all, weight_few, weight_positive}
 use Rattle.valves.specs.BenchLawful.{positive}
 use Rattle.valves.proofs.Pushed.{push_more}
@@ -23,7 +22,7 @@ new-requires-clause-few c =
     let ns = c.args.positions.now in
     let v = c.loop-valve.valve in
     let next = next_weight ns v c.loop-valve.weight c.loop-valve-test.true c.loop-valve.invariant.next in
-    omega (arith, next, weight_few ns (suc v) (omega (arith, c.requires.valves_most)) c.requires.four)
+    omega (arith, next, weight_few ns (suc v) (omega (arith, c.requires.few)) c.requires.four)
 
 pub loop-valve-preserved : goal.loop-valve-preserved
 loop-valve-preserved c =
@@ -37,7 +36,7 @@ loop-valve-preserved c =
       held = more (λ y. y.positions) ∙ (ap (λ l. l ++ x.positions ∷ []) c.loop-valve.invariant.held ∙ (ap (λ y. take v ns ++ y ∷ []) c.new.ensures.positions ∙ sym (take_more ns v 0 c.loop-valve-test.true)));
       next = next_weight ns v c.loop-valve.weight c.loop-valve-test.true c.loop-valve.invariant.next ∙ ap (weight ns) (sym (add-one v));
       weighs = λ k h. ap (λ l. get_or l k 0) (more (λ y. y.weight)) ∙ push_more (weight ns) (weights_in xs) v x.weight (length-map xs _ ∙ long) (c.new.ensures.weight ∙ c.loop-valve.invariant.next) c.loop-valve.invariant.weighs k h;
-      begins = λ k h. ap (λ l. get_or l k 0) (more (λ y. y.first)) ∙ push_more (λ y. row_from c.args.interlocks.now y 0) (firsts_in xs) v x.first (length-map xs _ ∙ long) (c.new.ensures.first ∙ c.row_of.ensures) c.loop-valve.invariant.begins k h;
+      begins = more (λ y. y.first) ∙ (ap (λ l. l ++ x.first ∷ []) c.loop-valve.invariant.begins ∙ (ap (λ y. take v c.args.first.now ++ y ∷ []) c.new.ensures.first ∙ sym (take_more c.args.first.now v 0 (omega arith))));
     }
 
 pub returns-clause-counts : goal.returns-clause-counts
