@@ -43,10 +43,3 @@ said_fault bs ns ls s =
     ap (option_map (Bench (valves_in bs)))
     (ap (λ ms. bench_fault ms ls) s.positions ∙ (ap (bench_fault (body_positions bs)) s.interlocks ∙ first_enough (body_positions bs) (body_interlocks bs)))
     ∙ sym (ap (λ b. cond (not b) (Some Length) (option_map (Bench (valves_in bs)) (bench_fault (body_positions bs) (body_interlocks bs)))) s.long)
-
--- there are as many numbers of positions as told
-pub said_valves : (bs ns : List ℕ) (ls : List Interlock) → BenchSays bs ns ls → length ns ≡ valves_in bs
-said_valves bs ns ls s =
-    let whole : length bs ≡ 2 + (valves_in bs + 4 * interlock_count bs) = eqb-true (length bs) _ s.long in
-    let behind : length (drop 2 bs) ≡ length bs - 2 = length-drop 2 bs in
-    ap length s.positions ∙ length-take-le (valves_in bs) (drop 2 bs) (omega arith)

@@ -1,3 +1,4 @@
 pub mod Rows
 pub mod BenchRule
 pub mod TrackRule
+pub mod TrackRows

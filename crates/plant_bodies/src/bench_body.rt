@@ -1,10 +1,12 @@
 // The body of a valve bench: taken apart, and what is wrong with it first.
-ghost use Rattle.std.specs.Prelude.{◌≡◌, false, Some, None};
-ghost use Rattle.plant_bodies.specs.BenchRule.{bench_long, BenchSays, valves_fault};
+ghost use Rattle.std.specs.Prelude.{◌≡◌, ◌/◌, false, length, Some, None};
+ghost use Rattle.std.specs.Result.{result_err};
+ghost use Rattle.valves.specs.Faults.{bench_fault};
+ghost use Rattle.plant_bodies.specs.BenchRule.{bench_long, BenchSays, interlocks_in, valves_fault};
 
-use crate::rows::read_rows;
+use crate::rows::{Row, read_rows};
 use arrayvec::ArrayVec;
-use valves::check::first_fault;
+use valves::check::{check_row, check_sizes};
 use valves::fault::BenchFault;
 use valves::interlock::Interlock;
 
@@ -51,12 +53,30 @@ impl<'a> BenchBody<'a> {
 pub fn valves_fault(body: &[u8]) -> Option<ValvesFault>
     ensures { result ≡ valves_fault body.now }
 {
-    let Some(bench) = BenchBody::of(body) else {
+    let [valves, count, rest @ ..] = body else {
         return Some(ValvesFault::Length);
     };
-    let fault = first_fault(bench.positions, &bench.interlocks)?;
+    let split = *valves as usize;
+    if rest.len() != split + 4 * *count as usize {
+        return Some(ValvesFault::Length);
+    }
+    let (positions, rows) = rest.split_at(split);
+    let fault = check_rows(positions, rows).err()?;
     Some(ValvesFault::Bench {
-        valves: bench.positions.len() as u8,
+        valves: *valves,
         fault,
     })
+}
+
+// The checks of a bench whose interlocks are read where they lie, each once, and none past the first fault.
+fn check_rows(positions: &[u8], rows: &[u8]) -> Result<(), BenchFault>
+    ensures { result_err result ≡ bench_fault positions.now (interlocks_in (length rows.now / 4) rows.now) }
+{
+    let (fours, _) = rows.as_chunks::<4>();
+    check_sizes(positions, fours.len())?;
+    for (row, four) in fours.iter().enumerate() {
+        let lock = Interlock::of(*four);
+        check_row(positions, lock, row as u8)?;
+    }
+    Ok(())
 }

@@ -1,12 +1,14 @@
 // The body of a track: taken apart, and what is wrong with it first.
-ghost use Rattle.std.specs.Prelude.{◌≡◌, false, Some, None};
-ghost use Rattle.plant_bodies.specs.TrackRule.{track_long, TrackSays, track_fault};
+ghost use Rattle.std.specs.Prelude.{◌≡◌, ◌/◌, false, length, Some, None};
+ghost use Rattle.std.specs.Result.{result_err};
+ghost use Rattle.track.specs.Fault.{fault};
+ghost use Rattle.plant_bodies.specs.TrackRule.{links_in, track_long, TrackSays, track_fault};
 
-use crate::rows::read_rows;
+use crate::rows::{Row, read_rows};
 use arrayvec::ArrayVec;
 use numbers::word;
 use track::link::{Link, TrackFault};
-use track::track::check::first_fault;
+use track::track::check::{check_counts, check_link};
 
 // The number of stations and the links. One link more than a track can have is read at most, so that too many are told
 // from enough.
@@ -48,9 +50,26 @@ impl TrackBody {
 pub fn track_fault(body: &[u8]) -> Option<TrackBodyFault>
     ensures { result ≡ track_fault body.now }
 {
-    let Some(track) = TrackBody::of(body) else {
+    let [a, b, c, d, rows @ ..] = body else {
         return Some(TrackBodyFault::Length);
     };
-    let fault = first_fault(track.stations, &track.links)?;
+    let (stations, count) = (word(*a, *b), word(*c, *d));
+    if rows.len() != 4 * count as usize {
+        return Some(TrackBodyFault::Length);
+    }
+    let fault = check_rows(stations, rows).err()?;
     Some(TrackBodyFault::Track(fault))
+}
+
+// The checks of a track whose links are read where they lie, each once, and none past the first fault.
+fn check_rows(stations: u16, rows: &[u8]) -> Result<(), TrackFault>
+    ensures { result_err result ≡ fault stations (links_in (length rows.now / 4) rows.now) }
+{
+    let (fours, _) = rows.as_chunks::<4>();
+    check_counts(stations, fours.len())?;
+    for (row, four) in fours.iter().enumerate() {
+        let link = Link::of(*four);
+        check_link(stations, link, row as u16)?;
+    }
+    Ok(())
 }

@@ -1,5 +1,5 @@
 -- What no fault of a body says of the bench that it describes. Assumes nothing.
-use Rattle.std.proofs.Common.{◌≡◌, ℕ, ◌≤◌, List, length, is_some, None, Ok, Err, Result, sym, ap, ◌∙◌, take_all, arith}
+use Rattle.std.proofs.Common.{◌≡◌, ℕ, ◌≤◌, List, length, is_some, None, Ok, Err, Result, sym, subst, ap, ◌∙◌, take_all, arith}
 use Rattle.std.specs.Option.{option_map}
 use Rattle.std.specs.Result.{result_ok}
 use Rattle.valves.specs.declared.fault.BenchFault.{BenchFault}
@@ -34,6 +34,10 @@ module _ (bs ns : List ℕ) (ls : List Interlock) (says : BenchSays bs ns ls) wh
         means = ap (λ ms. bench ms (interlocks_of b)) counts ∙ ap (bench (body_positions bs)) locks;
       }
 
-  pub read : (r : Result Bench BenchFault) → Makes ns ls r → ReadsBench bs (result_ok r)
-  read (Ok b) m = made b m
-  read (Err f) m = ap is_some (sym (said_fault bs ns ls says) ∙ ap (option_map (Wrong (valves_in bs))) m)
+  read_parts : (r : Result Bench BenchFault) → Makes ns ls r → ReadsBench bs (result_ok r)
+  read_parts (Ok b) m = made b m
+  read_parts (Err f) m = ap is_some (sym (said_fault bs ns ls says) ∙ ap (option_map (Wrong (valves_in bs))) m)
+
+-- from whatever holds them
+pub read : (bs ns : List ℕ) (held ls : List Interlock) (r : Result Bench BenchFault) → Makes ns held r → BenchSays bs ns ls → held ≡ ls → ReadsBench bs (result_ok r)
+read bs ns held ls r m says same = read_parts bs ns held (subst (BenchSays bs ns) (sym same) says) r m

@@ -1,5 +1,5 @@
 -- What no fault of a body says of the track that it describes. Assumes nothing.
-use Rattle.std.proofs.Common.{◌≡◌, ℕ, ◌≤◌, Bool, true, false, cond, List, length, is_some, Some, None, Ok, Err, Option, Result, sym, refl, ap, ◌∙◌, take_all, arith}
+use Rattle.std.proofs.Common.{◌≡◌, ℕ, ◌+◌, ◌*◌, ◌≤◌, Bool, true, false, cond, not, eqb, List, length, is_some, Some, None, Ok, Err, Option, Result, sym, subst, refl, ap, ◌∙◌, take_all, arith}
 use Rattle.std.specs.Option.{option_map}
 use Rattle.std.specs.Result.{result_ok}
 use Rattle.std.proofs.lemmas.Bool.{ltb-false}
@@ -9,14 +9,19 @@ use Rattle.track.specs.declared.track.Track.{Track}
 use Rattle.track.specs.Track.{Made, Makes, track as track-plant}
 use Rattle.track.specs.Fault.{fault}
 use Rattle.plant_bodies.specs.declared.track_body.TrackBodyFault.TheVariants.{Length, Track as Wrong}
-use Rattle.plant_bodies.specs.TrackRule.{stations_in, body_links, track_long, TrackSays, track_fault}
+use Rattle.plant_bodies.specs.TrackRule.{stations_in, link_count, track_long, TrackSays, track_fault}
 use Rattle.plant_bodies.proofs.Tracks.{said_fault}
 use Rattle.plants_read.proofs.Passed.{passed}
 use Rattle.plants_read.specs.Tracks.{track_links, TrackMade, ReadsTrack}
 
+-- its length by its own count, then the track's first fault
+pub track_rule : (bs : List ℕ) →
+    track_fault bs ≡ cond (not (eqb (length bs) (4 + 4 * link_count bs))) (Some Length) (option_map Wrong (fault (stations_in bs) (track_links bs)))
+track_rule bs = refl
+
 -- no fault of the body is none of the plant
 pub track_faultless : (bs : List ℕ) → None ≡ track_fault bs → fault (stations_in bs) (track_links bs) ≡ None
-track_faultless bs e = passed (track_long bs) Length Wrong (fault (stations_in bs) (body_links bs)) e
+track_faultless bs e = passed (track_long bs) Length Wrong (fault (stations_in bs) (track_links bs)) (e ∙ track_rule bs)
 
 -- at most 1,024 links
 test_passed : (b : Bool) (f : TrackFault) (o : Option TrackFault) → cond b (Some f) o ≡ None → (b ≡ false) × (o ≡ None)
@@ -40,6 +45,10 @@ module _ (bs : List ℕ) (n : ℕ) (ls : List Link) (says : TrackSays bs n ls) w
         means = m.means ∙ (ap (λ k. track-plant k ls) says.stations ∙ ap (track-plant (stations_in bs)) links);
       }
 
-  pub read : (r : Result Track TrackFault) → Makes n ls r → ReadsTrack bs (result_ok r)
-  read (Ok t) m = made t m
-  read (Err f) m = ap is_some (sym (said_fault bs n ls says) ∙ ap (option_map Wrong) m)
+  read_parts : (r : Result Track TrackFault) → Makes n ls r → ReadsTrack bs (result_ok r)
+  read_parts (Ok t) m = made t m
+  read_parts (Err f) m = ap is_some (sym (said_fault bs n ls says) ∙ ap (option_map Wrong) m)
+
+-- from whatever holds them
+pub read : (bs : List ℕ) (n : ℕ) (held ls : List Link) (r : Result Track TrackFault) → Makes n held r → TrackSays bs n ls → held ≡ ls → ReadsTrack bs (result_ok r)
+read bs n held ls r m says same = read_parts bs n held (subst (TrackSays bs n) (sym same) says) r m

@@ -21,6 +21,12 @@ abbrev pub rows_fault : ℕ → ℕ → List Link → Option TrackFault
 rows_fault stations row [] = None
 rows_fault stations row (link ∷ links) = before (row_fault stations row link) (rows_fault stations (row + 1) links)
 
+-- what is wrong with the number of stations, or else with the number of links
+abbrev pub counts_fault : ℕ → ℕ → Option TrackFault
+counts_fault stations links =
+    cond (stations == 0 || nat_lt 512 stations) (Some Stations)
+    (cond (nat_lt 1024 links) (Some Links) None)
+
 -- 1 to 512 stations, then at most 1,024 links, then the links row by row from 0
 abbrev pub fault : ℕ → List Link → Option TrackFault
 fault stations links =

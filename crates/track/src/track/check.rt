@@ -1,7 +1,7 @@
 // Checks the data of a track without keeping one.
 ghost use Rattle.std.specs.Prelude.{◌≡◌, ◌↔◌, None};
 ghost use Rattle.std.specs.Result.{result_err};
-ghost use Rattle.track.specs.Fault.{fault, row_fault};
+ghost use Rattle.track.specs.Fault.{fault, counts_fault, row_fault};
 ghost use Rattle.track.specs.Data.{TrackData};
 
 use crate::link::{Link, TrackFault};
@@ -22,19 +22,29 @@ pub fn first_fault(stations: u16, links: &[Link]) -> Option<TrackFault>
 pub(crate) fn check(stations: u16, links: &[Link]) -> Result<(), TrackFault>
     ensures { result_err result ≡ fault stations links.now }
 {
-    if stations == 0 || stations > STATIONS {
-        return Err(TrackFault::Stations);
-    }
-    if links.len() > LINKS {
-        return Err(TrackFault::Links);
-    }
+    check_counts(stations, links.len())?;
     for (row, link) in links.iter().enumerate() {
         check_link(stations, *link, row as u16)?;
     }
     Ok(())
 }
 
-fn check_link(stations: u16, link: Link, row: u16) -> Result<(), TrackFault>
+// What is checked first: how many stations there are, and how many links.
+pub fn check_counts(stations: u16, links: usize) -> Result<(), TrackFault>
+    ensures { result_err result ≡ counts_fault stations links }
+{
+    if stations == 0 || stations > STATIONS {
+        return Err(TrackFault::Stations);
+    }
+    if links > LINKS {
+        return Err(TrackFault::Links);
+    }
+    Ok(())
+}
+
+// What is checked of each link, in the order of their rows. With `check_counts` it serves who holds the links in another
+// form, as bytes.
+pub fn check_link(stations: u16, link: Link, row: u16) -> Result<(), TrackFault>
     ensures { result_err result ≡ row_fault stations row link }
 {
     if link.one >= stations {
