@@ -1,7 +1,6 @@
 -- What is found at a leg's end is its length, and what is zeroed is what it needs. Assumes nothing.
-use Rattle.std.proofs.Common.{◌≡◌, ℕ, ◌≤◌, min, true, false, ltb, List, [], ◌++◌, length, drop, replicate, Some, None, Ok, Err, Result, sym, ap, ◌∙◌, subst, arith}
-use Rattle.std.proofs.lemmas.List.{drop_all, nil_from_length}
-use Rattle.std.proofs.lemmas.Bool.{cond-true, cond-false, lt-ltb, le-ltb}
+use Rattle.std.proofs.Common.{◌≡◌, ℕ, true, false, ltb, Some, None, Ok, Err, Result, sym, ap, ◌∙◌, subst}
+use Rattle.std.proofs.lemmas.Bool.{cond-true, lt-ltb, le-ltb}
 use Rattle.plant.specs.Meaning.{Meaning}
 use Rattle.plant.specs.declared.refusal.Refusal.{Refusal}
 use Rattle.plant.specs.declared.refusal.Refusal.TheVariants.{NoSuchSetting, Bound, Overfull, OutOfReach, NoSuchOperation, TaggedAlready, Untagged, NoList, WrongOperation}
@@ -11,7 +10,7 @@ use Rattle.legs.specs.Legs.{end, leg_length, expanded, need}
 use Rattle.legs.specs.Answers.{answer, outside, too_high, measured}
 use Rattle.legs.proofs.Tells.{in_layer}
 use Rattle.search.specs.declared.leg_search.Reached.{Reached}
-use Rattle.search.specs.Answered.{zeroed, LegAnswer, RefusedBy, Searched}
+use Rattle.search.specs.Answered.{LegAnswer, RefusedBy, Searched}
 use Rattle.search.specs.Walked.{AtEnd}
 
 -- the length of a leg whose last layer has a record of the target, and of one whose last layer has none

@@ -1,6 +1,6 @@
 -- Looking at one record after another finds a setting, or that it is not there. Assumes nothing.
 use Rattle.std.proofs.Common.{◌≡◌, ℕ, zero, suc, ◌<◌, Bool, true, false, cond, ◌||◌, eqb, List, [], ◌∷◌, ◌++◌, map, length, get_or, take, drop, Some, None, Option, inl, inr, sym, refl, ap, ◌∙◌, arith}
-use Rattle.std.specs.List.{find, list_any}
+use Rattle.std.specs.List.{find}
 use Rattle.std.proofs.lemmas.List.{get_or-map, drop-map, map-append, take-append-drop}
 use Rattle.std.proofs.lemmas.Bool.{eq-eqb, eqb-true, or_left, or_right}
 use Rattle.legs.specs.Layers.{has}
@@ -10,11 +10,6 @@ module _ {X : Type 0} (f : X → ℕ) where
   -- a record's setting is told at its place
   pub told_here : (xs : List X) (i : ℕ) (x : X) → i < length xs → x ≡ get_or xs i x → get_or (map f xs) i 0 ≡ f x
   told_here xs i x h read = get_or-map f xs i x 0 h ∙ ap f (sym read)
-
-  -- a setting is looked for by a test of each record
-  pub has_any : (xs : List X) (u : ℕ) → has (map f xs) u ≡ list_any (λ x. eqb (f x) u) xs
-  has_any [] u = refl
-  has_any (x ∷ xs) u = ap (λ b. eqb (f x) u || b) (has_any xs u)
 
   -- the first record that passes the test tells the setting
   pub find_hit : (xs : List X) (u : ℕ) → Hit f xs u (find (λ x. eqb (f x) u) xs)

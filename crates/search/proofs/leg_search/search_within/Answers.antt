@@ -1,12 +1,17 @@
 -- The leg is refused, or its length is where it ended.
-use Rattle.std.proofs.Common.{Some, sym, ap, ◌∙◌, subst}
+use Rattle.std.proofs.Common.{Some, sym, ap, ◌∙◌, subst, arith}
 use Rattle.legs.specs.Kinds.{Tells}
 use Rattle.legs.specs.Layers.{In, layer}
+use Rattle.legs.proofs.Need.{need_one}
 use Rattle.search.specs.Records.{kind}
 use Rattle.legs.specs.Asked.{asked}
 use Rattle.search.specs.Walked.{AtEnd}
 use Rattle.search.proofs.Answering.{length_hit}
 use Rattle.search.proofs.leg_search.search_within.Goals as goal
+
+pub returns-then-records-eq0-clause-answer : goal.returns-then-records-eq0-clause-answer
+returns-then-records-eq0-clause-answer g c =
+    omega (arith, c.if-records-eq0.true, need_one (g.P.Plant.meaning c.args.task.plant.now) (asked c.args.task.leg))
 
 pub returns-in_ok-record-in-Ok-clause-answer : goal.returns-in_ok-record-in-Ok-clause-answer
 returns-in_ok-record-in-Ok-clause-answer g c =
