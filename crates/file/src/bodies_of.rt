@@ -39,13 +39,27 @@ impl<'a> Bodies<'a> {
     pub(crate) fn nth(self, number: u8) -> Option<Body<'a>>
         ensures { BodyIs (slice_get (parts_left self.entry) number) result }
     {
-        let mut rest = self;
-        // Stays: taken by `split_first`, as in `check_bodies`.
-        for _before in 0..number {
-            let (_, after) = rest.split_first()?;
-            rest = after;
+        if number >= self.rows.left {
+            return None;
         }
-        let (body, _) = rest.split_first()?;
+        let mut rows = self.rows;
+        let mut place = self.place;
+        // Stays: the rows alone, taken by `split_first` as in `rows_length`, since no more is needed of those passed over.
+        for _before in 0..number {
+            let Some((row, after)) = rows.split_first() else {
+                return unreachable();
+            };
+            place += row.length;
+            rows = after;
+        }
+        let behind = Bodies {
+            file: self.file,
+            rows,
+            place,
+        };
+        let Some((body, _)) = behind.split_first() else {
+            return unreachable();
+        };
         Some(body)
     }
 }

@@ -7,7 +7,7 @@ pub mod entries;
 pub mod entry;
 pub mod file;
 pub mod kind;
-mod open;
+pub mod open;
 pub mod read;
 mod row;
 mod rows;
