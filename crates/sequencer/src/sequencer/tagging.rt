@@ -18,10 +18,13 @@ impl<P: Plant> Sequencer<P> {
     {
         self.plant.tag(operation)?;
         let plant = self.plant.below();
-        self.list = self
+        if self
             .list
-            .take()
-            .filter(|list| !list.touches(plant, operation));
+            .as_ref()
+            .is_some_and(|list| list.touches(plant, operation))
+        {
+            self.list = None;
+        }
         Ok(())
     }
 
