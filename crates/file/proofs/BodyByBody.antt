@@ -12,9 +12,9 @@ use Rattle.file.specs.Parts.{Part, parts_from}
 use Rattle.file.specs.Taken.{parts_left, RowParts, BodyParts, BodyIs}
 
 -- those behind the first, by its row
-pub behind_row : (s rest : Rows) (row : Row) → RowParts s row rest → (p : ℕ) (file : List ℕ) (k : ℕ) →
-    slice_get (parts_from rest.left rest.bytes.now (p + row.length) (drop (p + row.length) file)) k ≡ slice_get (parts_from s.left s.bytes.now p (drop p file)) (suc k)
-behind_row s rest row t p file k =
+pub behind_row : (s rest : Rows) (row : Row) → RowParts s row rest → (p q : ℕ) (file : List ℕ) (k : ℕ) → q ≡ p + row.length →
+    slice_get (parts_from rest.left rest.bytes.now q (drop q file)) k ≡ slice_get (parts_from s.left s.bytes.now p (drop p file)) (suc k)
+behind_row s rest row t p q file k e =
     let more = ap (λ e. slice_get (parts_from e s.bytes.now p (drop p file)) (suc k)) t.left in
     let far = drop-drop (row_length s.bytes.now) p file in
     cc

@@ -1,20 +1,24 @@
 -- A turn passes one row; the loop ends at the one that was looked for.
-use Rattle.std.proofs.Common.{◌≡◌, ◌+◌, suc, ap, ◌∙◌, arith}
+use Rattle.std.proofs.Common.{◌≡◌, ◌+◌, suc, length, ap, ◌∙◌, arith}
 use Rattle.std.proofs.lemmas.Grind.{common_steps}
 use Rattle.std.specs.List.{slice_get}
+use Rattle.file.specs.Contents.{rows_length}
 use Rattle.file.specs.Taken.{parts_left}
 use Rattle.file.proofs.BodyByBody.{none_past, behind_row, first_is}
 use Rattle.file.proofs.body.Bodies.nth.Goals as goal
 
 pub loop-before-preserved : goal.loop-before-preserved
-loop-before-preserved c = record {
-  there = omega (arith, c.in-Some.ensures.left);
-  whole = grind (arith, common_steps);
-  entries = λ k.
-      let same : c.loop-before._before + suc k ≡ (c.loop-before._before + 1) + k = omega arith in
-      behind_row c.loop-before.rows _ _ c.in-Some.ensures c.loop-before.place c.args.self.file.now k
-      ∙ (c.loop-before.invariant.entries (suc k) ∙ ap (slice_get (parts_left c.args.self)) same);
-}
+loop-before-preserved c =
+    let further : (c.loop-before.place + c.in-Some.row.length) + rows_length c.in-Some.after.left c.in-Some.after.bytes.now ≡ length c.args.self.file.now =
+    grind (arith, common_steps) in
+    record {
+      there = omega (arith, c.in-Some.ensures.left);
+      whole = omega arith;
+      entries = λ k.
+          let same : c.loop-before._before + suc k ≡ (c.loop-before._before + 1) + k = omega arith in
+          behind_row c.loop-before.rows _ _ c.in-Some.ensures c.loop-before.place _ c.args.self.file.now k (omega arith)
+          ∙ (c.loop-before.invariant.entries (suc k) ∙ ap (slice_get (parts_left c.args.self)) same);
+    }
 
 pub returns : goal.returns
 returns c =
